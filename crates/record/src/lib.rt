@@ -1,0 +1,3 @@
+pub mod header;
+pub mod refusal;
+pub mod words;

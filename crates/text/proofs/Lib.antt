@@ -1,0 +1,6 @@
+pub mod Readings
+pub mod Numbers
+pub mod Words
+pub mod Trips
+pub mod Wholes
+pub mod ClosedWords
