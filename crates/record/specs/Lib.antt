@@ -1,2 +1,7 @@
 pub mod Words
 pub mod WordLaws
+pub mod Header
+pub mod Lines
+pub mod Write
+pub mod Read
+pub mod Trip

@@ -1,3 +1,15 @@
+// The record page: which processor had which job, from when, until when.
+//
+// A page is a header line and a line for each operation. `read::read_page` takes a text and fills a
+// list of entries; `write::write_page` takes a header and entries and fills a buffer. Each accepts
+// exactly what the other makes. `header` and `refusal` have the plain data; the other modules are
+// the parts of the two calls, generic in the job type.
 pub mod header;
 pub mod refusal;
 pub mod words;
+pub mod head;
+pub mod lines;
+pub mod ranges;
+pub mod read_lines;
+pub mod write;
+pub mod read;

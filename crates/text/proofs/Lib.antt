@@ -4,3 +4,5 @@ pub mod Words
 pub mod Trips
 pub mod Wholes
 pub mod ClosedWords
+pub mod PairTrips
+pub mod PlainPairs

@@ -68,6 +68,10 @@ gap-at false s (c ∷ cs) = cond (eqb c 32) (Ok (tt, cs)) (Err (fault OtherKey s
 unfoldable pub gap : Bool → List ℕ → Step (Unit {0})
 gap last s = gap-at last s s
 
+-- a pair that is never the last of its line
+abbrev pub never : {T : Type 0} → T → Bool
+never x = false
+
 -- a pair and its end, which its value may decide
 unfoldable pub field : {T : Type 0} → List ℕ → (List ℕ → Option T) → (T → Bool) → List ℕ → Step T
 field key rule last s = then (pair key rule s) (λ v t. then (gap (last v) t) (λ _ u. Ok (v, u)))

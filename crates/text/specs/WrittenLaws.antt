@@ -47,3 +47,9 @@ written-more out at xs ys fits =
     ∙ ap (λ l. (take at out ++ xs) ++ (ys ++ l)) back
     ∙ append-assoc (take at out) xs _
     ∙ ap (λ l. take at out ++ l) (sym (append-assoc xs ys _) ∙ ap (λ n. (xs ++ ys) ++ drop n out) (add-assoc at (length xs) (length ys) ∙ ap (λ n. at + n) (sym (length-append xs ys))))
+
+-- what was written from the start
+pub take-front : {X : Type 0} (out bs : List X) → length bs ≤ length out → take (length bs) (written out 0 bs) ≡ bs
+take-front out bs fits =
+    let same : length bs ≡ 0 + length bs = omega arith in
+    ap (λ n. take n (written out 0 bs)) same ∙ take-written out 0 bs (omega arith)

@@ -1,6 +1,5 @@
 // Reading pair by pair.
 ghost use mathlib.Core.Path.{_≡_};
-ghost use mathlib.Core.Bool.{false};
 ghost use mathlib.Core.List.{List};
 ghost use Prim.Native.Nat.{ℕ, _≤_};
 ghost use lib.ListN.{length};
@@ -9,7 +8,7 @@ ghost use Rattle.std.specs.Options.{mapped};
 ghost use Rattle.std.specs.shelf.Text.{sameBytes};
 ghost use Rattle.std.specs.declared.option.Option.{Option};
 ghost use Rattle.text.specs.Figures.{within};
-ghost use Rattle.text.specs.Pairs.{keyed, word, pair, gap, field, outcome, Spells};
+ghost use Rattle.text.specs.Pairs.{keyed, word, pair, gap, field, never, outcome, Spells};
 use crate::figures::read_within;
 use crate::fault::Fault;
 use crate::fault::Refusal;
@@ -101,7 +100,7 @@ impl<'a> Reader<'a> {
 
     // The number at `key`, with the space after it.
     pub fn number_field(&mut self, key: &[u8], low: u32, most: u32) -> Result<u32, Fault>
-        ensures { λ r. ⌜ outcome r (now (now (self .exit) .rest)) ≡ field (now (key .entry)) (within low most) (λ _. false) (now (now (self .entry) .rest)) ⌝ }
+        ensures { λ r. ⌜ outcome r (now (now (self .exit) .rest)) ≡ field (now (key .entry)) (within low most) never (now (now (self .entry) .rest)) ⌝ }
     {
         let v = self.number_at(key, low, most)?;
         self.gap_at(false)?;
@@ -110,7 +109,7 @@ impl<'a> Reader<'a> {
 
     // The value at `key` that is spelled by a word, with the space after it.
     pub fn word_field<W: Spelled + Drop>(&mut self, key: &[u8]) -> Result<W, Fault>
-        ensures { λ r. ⌜ outcome r (now (now (self .exit) .rest)) ≡ field (now (key .entry)) (W·Spelled .spells) (λ _. false) (now (now (self .entry) .rest)) ⌝ }
+        ensures { λ r. ⌜ outcome r (now (now (self .exit) .rest)) ≡ field (now (key .entry)) (W·Spelled .spells) never (now (now (self .entry) .rest)) ⌝ }
     {
         let v = self.word_at::<W>(key)?;
         self.gap_at(false)?;
