@@ -12,9 +12,9 @@ use Rattle.std.proofs.shelf.Tests.{cond-true, cond-false, cases-bool, le-leb, l
 use Rattle.std.specs.declared.result.Result.the-variants.{Ok}
 use Rattle.jobs.specs.JobType.{Kind, Lawful}
 use Rattle.text.specs.Figures.{within}
-use Rattle.text.specs.Pairs.{then, pair, gap}
+use Rattle.text.specs.Pairs.{then, pair, gap, ender}
 use Rattle.text.specs.Written.{word-pair, number-pair}
-use Rattle.text.proofs.Trips.{ok-inj, err-ok, then-ok, then-on, then-at, ender, gap-complete}
+use Rattle.text.proofs.Trips.{ok-inj, err-ok, then-ok, then-on, then-at, gap-complete}
 use Rattle.text.proofs.PairTrips.{number-sound, number-complete, last-sound, last-complete, word-sound, word-complete}
 use Rattle.entries.specs.Calls.{call-text, call-of}
 use Rattle.entries.specs.CallLaws.{call-laws}

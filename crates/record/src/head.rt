@@ -32,7 +32,7 @@ pub fn put_head<S: Sink<u8>>(s: &mut S, h: &Header)
     ensures { λ _. ⌜ S·Sink .took (now (s .entry)) (header-text (now (h .entry))) (now (s .exit)) ⌝ }
 {
     put_word(s, b"register", h.register.to_word(), b' ');
-    put_pair(s, b"places", h.places, b' ');
-    put_pair(s, b"processors", h.processors, b' ');
+    put_pair(s, b"places", h.places as usize, b' ');
+    put_pair(s, b"processors", h.processors as usize, b' ');
     put_word(s, b"job", h.job.to_word(), b'\n');
 }

@@ -40,21 +40,21 @@ fn put_job<S: Sink<u8>, J: Job>(s: &mut S, e: &Entry)
     ensures { λ _. ⌜ S·Sink .took (now (s .entry)) (job-pairs (kind (J·Job .names) (J·Job .made)) (now (e .entry))) (now (s .exit)) ⌝ }
 {
     if shows_job(e) {
-        put_pair(s, J::first_key_bytes(), e.first, b' ');
-        put_pair(s, J::second_key_bytes(), e.second, b'\n');
+        put_pair(s, J::first_key_bytes(), e.first as usize, b' ');
+        put_pair(s, J::second_key_bytes(), e.second as usize, b'\n');
     }
 }
 
 fn put_entry<S: Sink<u8>, J: Job>(s: &mut S, op: u32, e: &Entry)
     ensures { λ _. ⌜ S·Sink .took (now (s .entry)) (entry-text (kind (J·Job .names) (J·Job .made)) op (now (e .entry))) (now (s .exit)) ⌝ }
 {
-    put_pair(s, b"op", op, b' ');
-    put_pair(s, b"proc", e.processor, b' ');
+    put_pair(s, b"op", op as usize, b' ');
+    put_pair(s, b"proc", e.processor as usize, b' ');
     put_word(s, b"call", e.call.to_word(), b' ');
-    put_pair(s, b"from", e.from, b' ');
-    put_pair(s, b"mark", e.mark, b' ');
-    put_pair(s, b"to", e.to, b' ');
-    put_pair(s, b"task", e.task, end_of_task(e));
+    put_pair(s, b"from", e.from as usize, b' ');
+    put_pair(s, b"mark", e.mark as usize, b' ');
+    put_pair(s, b"to", e.to as usize, b' ');
+    put_pair(s, b"task", e.task as usize, end_of_task(e));
     put_job::<S, J>(s, e);
 }
 

@@ -6,3 +6,4 @@ pub mod Wholes
 pub mod ClosedWords
 pub mod PairTrips
 pub mod PlainPairs
+pub mod ReaderLaws

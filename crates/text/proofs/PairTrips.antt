@@ -8,9 +8,9 @@ use Rattle.std.specs.Written.{decimal}
 use Rattle.std.specs.declared.option.Option.{Option}
 use Rattle.std.specs.declared.result.Result.the-variants.{Ok}
 use Rattle.text.specs.Figures.{within}
-use Rattle.text.specs.Pairs.{pair, gap, field, never, Spells}
+use Rattle.text.specs.Pairs.{pair, gap, field, never, ender, Spells}
 use Rattle.text.specs.Written.{word-pair, number-pair}
-use Rattle.text.proofs.Trips.{ender, ender-stops, decimal-whole, within-sound, within-complete, pair-sound, pair-complete, gap-sound, gap-complete, field-sound, field-complete}
+use Rattle.text.proofs.Trips.{ender-stops, decimal-whole, within-sound, within-complete, pair-sound, pair-complete, gap-sound, gap-complete, field-sound, field-complete}
 
 -- a pair before the rest of a text
 pub paired : (key w : List ℕ) (end : ℕ) (t : List ℕ) → (key ++ (61 ∷ (w ++ (end ∷ [])))) ++ t ≡ key ++ (61 ∷ (w ++ (end ∷ t)))

@@ -18,7 +18,7 @@ use Rattle.std.specs.declared.result.Result.the-variants.{Ok, Err}
 use Rattle.text.specs.declared.fault.Fault.{Fault}
 use Rattle.text.specs.declared.fault.Refusal.the-variants.{OtherKey, BadValue}
 use Rattle.text.specs.Figures.{number, from-low, within}
-use Rattle.text.specs.Pairs.{keyed, stops, word, after, Step, fault, orElse, then, pair, gap-at, gap, field}
+use Rattle.text.specs.Pairs.{keyed, stops, word, after, Step, fault, orElse, then, pair, gap-at, gap, field, ender}
 use Rattle.text.proofs.Numbers.{own, cond-some, number-sound, number-complete}
 use Rattle.text.proofs.Words.{goes-from}
 
@@ -134,10 +134,6 @@ module _ {T : Type 0} (key : List ℕ) (rule : List ℕ → Option T) where
       ∙ ap (λ x. orElse (rule x) (fault BadValue (w ++ (c ∷ t))) (λ y. Ok (y, after (w ++ (c ∷ t))))) (p .0)
       ∙ ap (λ o. orElse o (fault BadValue (w ++ (c ∷ t))) (λ y. Ok (y, after (w ++ (c ∷ t))))) is
       ∙ ap (λ l. Ok (v, l)) (p .1)
-
--- the byte that ends a pair
-abbrev pub ender : Bool → ℕ
-ender last = cond last 10 32
 
 pub ender-stops : (last : Bool) → stops (ender last) ≡ true
 ender-stops true = refl

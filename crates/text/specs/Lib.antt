@@ -6,3 +6,5 @@ pub mod Written
 pub mod WrittenLaws
 pub mod Sink
 pub mod Ends
+pub mod Exact
+pub mod FaultLine

@@ -76,6 +76,10 @@ never x = false
 unfoldable pub field : {T : Type 0} → List ℕ → (List ℕ → Option T) → (T → Bool) → List ℕ → Step T
 field key rule last s = then (pair key rule s) (λ v t. then (gap (last v) t) (λ _ u. Ok (v, u)))
 
+-- the byte that ends a pair
+abbrev pub ender : Bool → ℕ
+ender last = cond last 10 32
+
 -- words that spell values: each value has one word, of plain bytes without a space or a newline
 pub record Spells {W : Type 0} (spelled : List ℕ → Option W) (text : W → List ℕ) : Type 0 where
   pub there : (x : W) → spelled (text x) ≡ Some x

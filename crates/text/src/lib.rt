@@ -12,3 +12,4 @@ pub mod sink;
 pub mod ends;
 pub mod put;
 pub mod fault_line;
+pub mod exact;

@@ -12,7 +12,7 @@ pub fn put_bytes<S: Sink<u8>>(s: &mut S, bs: &[u8])
     }
 }
 
-pub fn put_number<S: Sink<u8>>(s: &mut S, n: u32)
+pub fn put_number<S: Sink<u8>>(s: &mut S, n: usize)
     ensures { λ _. ⌜ S·Sink .took (now (s .entry)) (decimal n) (now (s .exit)) ⌝ }
 {
     if n < 10 {
@@ -23,7 +23,7 @@ pub fn put_number<S: Sink<u8>>(s: &mut S, n: u32)
     s.put(b'0' + (n % 10) as u8);
 }
 
-pub fn put_pair<S: Sink<u8>>(s: &mut S, key: &[u8], n: u32, end: u8)
+pub fn put_pair<S: Sink<u8>>(s: &mut S, key: &[u8], n: usize, end: u8)
     ensures { λ _. ⌜ S·Sink .took (now (s .entry)) (number-pair (now (key .entry)) n end) (now (s .exit)) ⌝ }
 {
     put_bytes(s, key);
