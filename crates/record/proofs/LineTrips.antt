@@ -9,11 +9,12 @@ use lib.Chars.{codes}
 use lib.Dec.{leb}
 use lib.ListN.{length, length-append}
 use Rattle.std.proofs.shelf.Tests.{cond-true, cond-false, cases-bool, le-leb, leb-true, and-from, and-parts}
-use Rattle.std.specs.declared.result.Result.the-variants.{Ok}
+use Rattle.std.specs.declared.result.Result.the-variants.{Ok, Err}
 use Rattle.jobs.specs.JobType.{Kind, Lawful}
 use Rattle.text.specs.Figures.{within}
-use Rattle.text.specs.Pairs.{then, pair, gap, ender}
+use Rattle.text.specs.Pairs.{fault, then, pair, gap, ender}
 use Rattle.text.specs.Written.{word-pair, number-pair}
+use Rattle.text.specs.declared.fault.Refusal.the-variants.{ListFull}
 use Rattle.text.proofs.Trips.{ok-inj, err-ok, then-ok, then-on, then-at, gap-complete}
 use Rattle.text.proofs.PairTrips.{number-sound, number-complete, last-sound, last-complete, word-sound, word-complete}
 use Rattle.entries.specs.Calls.{call-text, call-of}
@@ -134,7 +135,8 @@ module _ (kind : Kind) (laws : Lawful kind) where
 
     pub lines-sound : (k op : ℕ) (s : List ℕ) (es : List Entry) → op + length s < 2 ^ 64 → read-entries kind hd k op s ≡ Ok es → (s ≡ entries-text kind op es) × (all-of (in-range hd) es ≡ true) × (all-of (is-job kind) es ≡ true)
     lines-sound zero op [] es small h = let none = ok-inj h in (ap (entries-text kind op) none, ap (all-of (in-range hd)) (sym none), ap (all-of (is-job kind)) (sym none))
-    lines-sound zero op (c ∷ cs) es small h = absurd (err-ok h)
+    lines-sound zero op (c ∷ cs) es small h =
+        after-line-on (read-entry kind hd (op + 1) (c ∷ cs)) (λ e t. Err (fault ListFull (c ∷ cs))) es h (λ x t e1 h1. absurd (err-ok h1))
     lines-sound (suc k) op [] es small h = let none = ok-inj h in (ap (entries-text kind op) none, ap (all-of (in-range hd)) (sym none), ap (all-of (is-job kind)) (sym none))
     lines-sound (suc k) op (c ∷ cs) es small h =
         after-line-on (read-entry kind hd (op + 1) (c ∷ cs)) (λ e t. with-first e (read-entries kind hd k (op + 1) t)) es h (λ x t e1 h1.

@@ -35,16 +35,20 @@ module _ (kind : Kind) (hd : Header) where
   lines-none zero op (c ∷ cs) h = absurd (omega arith)
   lines-none (suc k) op (c ∷ cs) h = absurd (omega arith)
 
-  pub lines-full : (op : ℕ) (s : List ℕ) → 0 < length s → read-entries kind hd zero op s ≡ Err (fault ListFull s)
-  lines-full op [] h = absurd (omega arith)
-  lines-full op (c ∷ cs) h = refl
+  lines-last : (op : ℕ) (s : List ℕ) → 0 < length s → read-entries kind hd zero op s ≡ after-line (read-entry kind hd (op + 1) s) (λ e t. Err (fault ListFull s))
+  lines-last op [] h = absurd (omega arith)
+  lines-last op (c ∷ cs) h = refl
+
+  lines-full : (op : ℕ) (s t : List ℕ) (x : Entry) → 0 < length s → read-entry kind hd (op + 1) s ≡ Ok (x, t) → read-entries kind hd zero op s ≡ Err (fault ListFull s)
+  lines-full op s t x h e = lines-last op s h ∙ ap (λ r. after-line r (λ e t. Err (fault ListFull s))) e
 
   lines-step : (k op : ℕ) (s : List ℕ) → 0 < length s → read-entries kind hd (suc k) op s ≡ after-line (read-entry kind hd (op + 1) s) (λ e t. with-first e (read-entries kind hd k (op + 1) t))
   lines-step k op [] h = absurd (omega arith)
   lines-step k op (c ∷ cs) h = refl
 
-  pub lines-bad : (k op : ℕ) (s : List ℕ) (f : Fault) → 0 < length s → read-entry kind hd (op + 1) s ≡ Err f → read-entries kind hd (suc k) op s ≡ Err f
-  lines-bad k op s f h e = lines-step k op s h ∙ ap (λ r. after-line r (λ e t. with-first e (read-entries kind hd k (op + 1) t))) e
+  lines-bad : (k op : ℕ) (s : List ℕ) (f : Fault) → 0 < length s → read-entry kind hd (op + 1) s ≡ Err f → read-entries kind hd k op s ≡ Err f
+  lines-bad zero op s f h e = lines-last op s h ∙ ap (λ r. after-line r (λ e t. Err (fault ListFull s))) e
+  lines-bad (suc k) op s f h e = lines-step k op s h ∙ ap (λ r. after-line r (λ e t. with-first e (read-entries kind hd k (op + 1) t))) e
 
   pub lines-more : (k op : ℕ) (s t : List ℕ) (x : Entry) → 0 < length s → read-entry kind hd (op + 1) s ≡ Ok (x, t) → read-entries kind hd (suc k) op s ≡ with-first x (read-entries kind hd k (op + 1) t)
   lines-more k op s t x h e = lines-step k op s h ∙ ap (λ r. after-line r (λ e t. with-first e (read-entries kind hd k (op + 1) t))) e
@@ -54,15 +58,13 @@ module _ (kind : Kind) (hd : Header) where
       let down : room - n ≡ suc (room - (n + 1)) = omega arith in
       is ∙ ap (λ k. with-all front (read-entries kind hd k n s)) down ∙ ap (with-all front) (lines-more (room - (n + 1)) n s t x some e) ∙ with-more front x _
 
-  pub all-bad : (room n : ℕ) (whole : Result (List Entry) Fault) (front : List Entry) (s : List ℕ) (f : Fault) → n < room → 0 < length s → whole ≡ with-all front (read-entries kind hd (room - n) n s) → read-entry kind hd (n + 1) s ≡ Err f → whole ≡ Err f
-  all-bad room n whole front s f less some is e =
-      let down : room - n ≡ suc (room - (n + 1)) = omega arith in
-      is ∙ ap (λ k. with-all front (read-entries kind hd k n s)) down ∙ ap (with-all front) (lines-bad (room - (n + 1)) n s f some e)
+  pub all-bad : (room n : ℕ) (whole : Result (List Entry) Fault) (front : List Entry) (s : List ℕ) (f : Fault) → 0 < length s → whole ≡ with-all front (read-entries kind hd (room - n) n s) → read-entry kind hd (n + 1) s ≡ Err f → whole ≡ Err f
+  all-bad room n whole front s f some is e = is ∙ ap (with-all front) (lines-bad (room - n) n s f some e)
 
-  pub all-full : (room n : ℕ) (whole : Result (List Entry) Fault) (front : List Entry) (s : List ℕ) → room ≤ n → 0 < length s → whole ≡ with-all front (read-entries kind hd (room - n) n s) → whole ≡ Err (fault ListFull s)
-  all-full room n whole front s more some is =
+  pub all-full : (room n : ℕ) (whole : Result (List Entry) Fault) (front : List Entry) (s t : List ℕ) (x : Entry) → room ≤ n → 0 < length s → whole ≡ with-all front (read-entries kind hd (room - n) n s) → read-entry kind hd (n + 1) s ≡ Ok (x, t) → whole ≡ Err (fault ListFull s)
+  all-full room n whole front s t x more some is e =
       let none : room - n ≡ 0 = omega arith in
-      is ∙ ap (λ k. with-all front (read-entries kind hd k n s)) none ∙ ap (with-all front) (lines-full n s some)
+      is ∙ ap (λ k. with-all front (read-entries kind hd k n s)) none ∙ ap (with-all front) (lines-full n s t x some e)
 
   pub all-read : (room n : ℕ) (whole : Result (List Entry) Fault) (front : List Entry) (s : List ℕ) → length s ≡ 0 → whole ≡ with-all front (read-entries kind hd (room - n) n s) → whole ≡ Ok front
   all-read room n whole front s none is = is ∙ ap (with-all front) (lines-none (room - n) n s none) ∙ ap Ok (append-nil front)
@@ -81,7 +83,9 @@ after-line-ok (Err f) k es h = absurd (err-ok h)
 
 pub lines-within : (kind : Kind) (hd : Header) (k op : ℕ) (s : List ℕ) (es : List Entry) → read-entries kind hd k op s ≡ Ok es → length es ≤ k
 lines-within kind hd zero op [] es h = omega (arith, ap length (ok-inj h))
-lines-within kind hd zero op (c ∷ cs) es h = absurd (err-ok h)
+lines-within kind hd zero op (c ∷ cs) es h =
+    let p = after-line-ok (read-entry kind hd (op + 1) (c ∷ cs)) (λ e t. Err (fault ListFull (c ∷ cs))) es h in
+    absurd (err-ok (p .3))
 lines-within kind hd (suc k) op [] es h = omega (arith, ap length (ok-inj h))
 lines-within kind hd (suc k) op (c ∷ cs) es h =
     let p = after-line-ok (read-entry kind hd (op + 1) (c ∷ cs)) (λ e t. with-first e (read-entries kind hd k (op + 1) t)) es h in

@@ -55,10 +55,10 @@ abbrev pub after-line : Step Entry → (Entry → List ℕ → Result (List Entr
 after-line (Ok p) k = k (p .0) (p .1)
 after-line (Err f) k = Err f
 
--- the lines to the end of the text, numbered after op, at most room of them
+-- the lines to the end of the text, numbered after op, at most room of them; a line too many is read before it is refused, so that a fault of its own comes first
 abbrev pub read-entries : Kind → Header → ℕ → ℕ → List ℕ → Result (List Entry) Fault
 read-entries kind h zero op [] = Ok []
-read-entries kind h zero op (c ∷ cs) = Err (fault ListFull (c ∷ cs))
+read-entries kind h zero op (c ∷ cs) = after-line (read-entry kind h (op + 1) (c ∷ cs)) (λ e s. Err (fault ListFull (c ∷ cs)))
 read-entries kind h (suc room) op [] = Ok []
 read-entries kind h (suc room) op (c ∷ cs) = after-line (read-entry kind h (op + 1) (c ∷ cs)) (λ e s. with-first e (read-entries kind h room (op + 1) s))
 

@@ -63,16 +63,18 @@ fn read_entry<J: Job + Drop>(r: &mut Reader<'_>, h: &Header, op: u32) -> Result<
 
 // Reads the lines to the end of the text, at most `room` of them, and hands each to `s`.
 fn read_all<S: Sink<Entry>, J: Job + Drop>(r: &mut Reader<'_>, h: &Header, room: u32, s: &mut S) -> Result<u32, Fault>
-    requires { ⌜ 1 ≤ now h .processors ⌝ ∗ ⌜ 2 ≤ now h .places ⌝ }
+    requires ranged { ⌜ 1 ≤ now h .processors ⌝ ∗ ⌜ 2 ≤ now h .places ⌝ }
+    requires few { ⌜ room ≤ 32768 ⌝ }
     ensures value { λ o. ⌜ o ≡ size-of (read-entries (kind (J·Job .names) (J·Job .made)) (now (h .entry)) room 0 (now (now (r .entry) .rest))) ⌝ }
     ensures taken { λ _. ⌜ ((es : List Entries) → read-entries (kind (J·Job .names) (J·Job .made)) (now (h .entry)) room 0 (now (now (r .entry) .rest)) ≡ Ok es → S·Sink .took (now (s .entry)) es (now (s .exit))) ⌝ }
 {
     let mut n: u32 = 0;
     while !r.rest.is_empty() {
-        if n >= room {
-            return Err(Fault { refusal: Refusal::ListFull, left: r.rest.len() });
-        }
+        let left = r.rest.len();
         let e = read_entry::<J>(r, h, n + 1)?;
+        if n >= room {
+            return Err(Fault { refusal: Refusal::ListFull, left });
+        }
         s.put(e);
         n += 1;
     }

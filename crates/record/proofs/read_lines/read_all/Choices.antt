@@ -10,13 +10,13 @@ use Rattle.record.proofs.ReadLines.{with-all}
 use Rattle.record.proofs.read_lines.read_all.Given as given
 
 -- the entries so far were taken, and the others are still to come
-abbrev pub Inv-loop-room : given.InvT-loop-room
-Inv-loop-room g l =
+abbrev pub Inv-loop-left : given.InvT-loop-left
+Inv-loop-left g l =
     (l .n ≤ l .room)
     × ((front : List Entry)
       × (length front ≡ l .n)
       × (g .S·Sink .took (l .entry .s) front (l .s))
       × (read-entries (kind (g .J·Job .names) (g .J·Job .made)) (l .h) (l .room) 0 (now (l .entry .r .rest)) ≡ with-all front (read-entries (kind (g .J·Job .names) (g .J·Job .made)) (l .h) (l .room - l .n) (l .n) (now (l .r .rest)))))
 
-abbrev pub μ-loop-room : given.MeasureT-loop-room
-μ-loop-room g l = l .room - l .n
+abbrev pub μ-loop-left : given.MeasureT-loop-left
+μ-loop-left g l = l .room - l .n
