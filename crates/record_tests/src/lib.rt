@@ -1,0 +1,73 @@
+// Examples of the record page: whole pages of both job types, and every refusal at its edge.
+use entries::entry::Call;
+use entries::entry::Entry;
+use entries::entry::EntryPartialEq;
+use record::header::Header;
+use record::header::JobKind;
+use record::header::Register;
+use record::read::read_page;
+use text::ends::BufferSink;
+use text::put::put_bytes;
+use text::sink::Buffer;
+
+// What stands in a list before it is lent.
+pub fn junk() -> Entry {
+    Entry { processor: 9, call: Call::Steal, from: 77, mark: 78, to: 79, task: 80, first: 81, second: 82 }
+}
+
+pub fn entry(processor: u32, call: Call, stamps: (u32, u32, u32), task: u32, job: (u32, u32)) -> Entry {
+    let (from, mark, to) = stamps;
+    let (first, second) = job;
+    Entry { processor, call, from, mark, to, task, first, second }
+}
+
+pub fn small_header(job: JobKind) -> Header {
+    Header { register: Register::Word, places: 4, processors: 2, job }
+}
+
+// What comes of reading a page into a list of four: the refusal's number, line and byte, or 0 and the
+// number of entries; 99 where a refusal left the list otherwise than it was.
+pub fn outcome(page: &[u8]) -> (u32, usize, usize) {
+    outcome_in(page, 4)
+}
+
+// The same with a list of so many, four at most.
+pub fn outcome_in(page: &[u8], room: usize) -> (u32, usize, usize) {
+    let mut list = [junk(); 4];
+    match read_page(page, &mut list[0..room.min(4)]) {
+        Ok((_, n)) => (0, n as usize, 0),
+        Err(f) => {
+            if list == [junk(); 4] {
+                (f.refusal.number(), f.line, f.byte)
+            } else {
+                (99, 0, 0)
+            }
+        }
+    }
+}
+
+// What comes of a page of checks with these lines.
+pub fn of_checks(lines: &[u8]) -> (u32, usize, usize) {
+    joined(b"register=word places=4 processors=2 job=check\n", lines)
+}
+
+// What comes of a page of spans with these lines.
+pub fn of_spans(lines: &[u8]) -> (u32, usize, usize) {
+    joined(b"register=tree places=4 processors=2 job=span\n", lines)
+}
+
+fn joined(header: &[u8], lines: &[u8]) -> (u32, usize, usize) {
+    let mut page = [0u8; 300];
+    let mut fill = Buffer { out: &mut page, at: 0 };
+    put_bytes(&mut fill, header);
+    put_bytes(&mut fill, lines);
+    let n = fill.at.min(300);
+    outcome(&page[0..n])
+}
+
+#[cfg(test)]
+mod pages;
+#[cfg(test)]
+mod read_faults;
+#[cfg(test)]
+mod write_faults;
