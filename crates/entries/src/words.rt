@@ -1,9 +1,9 @@
 // The words of the calls.
 ghost use Rattle.entries.specs.Calls.{call-text, call-of};
 ghost use Rattle.entries.specs.CallLaws.{call-laws};
+use crate::entry::Call;
 use text::cursor::Spelled;
 use text::cursor::is_word;
-use crate::entry::Call;
 
 pub impl Spelled for Call as CallSpelled {
     ghost spells = { call-of };

@@ -12,7 +12,9 @@ pub struct Check {
 
 pub impl Job for Check as CheckJob {
     const NAME: &'static str = "check";
+
     const FIRST_KEY: &'static str = "line";
+
     const SECOND_KEY: &'static str = "limit";
 
     ghost names = { check-names };
@@ -41,7 +43,10 @@ pub impl Job for Check as CheckJob {
 
     fn from_numbers(first: u32, second: u32) -> Option<Self> {
         if 1 <= first && first <= 1024 && 1 <= second && second <= 999 {
-            Some(Check { line: first, limit: second })
+            Some(Check {
+                line: first,
+                limit: second,
+            })
         } else {
             None
         }

@@ -7,7 +7,9 @@ ghost use Rattle.jobs.specs.JobType.{Names, Laws};
 pub trait Job: Sized {
     // each of the three is 1 to 8 small letters
     const NAME: &'static str;
+
     const FIRST_KEY: &'static str;
+
     const SECOND_KEY: &'static str;
 
     // the bytes of the three constants

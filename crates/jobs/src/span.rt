@@ -12,7 +12,9 @@ pub struct Span {
 
 pub impl Job for Span as SpanJob {
     const NAME: &'static str = "span";
+
     const FIRST_KEY: &'static str = "first";
+
     const SECOND_KEY: &'static str = "last";
 
     ghost names = { span-names };
@@ -41,7 +43,10 @@ pub impl Job for Span as SpanJob {
 
     fn from_numbers(first: u32, second: u32) -> Option<Self> {
         if first <= second && second <= 4000000 {
-            Some(Span { first, last: second })
+            Some(Span {
+                first,
+                last: second,
+            })
         } else {
             None
         }

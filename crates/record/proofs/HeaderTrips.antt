@@ -55,10 +55,11 @@ header-sound s h t e =
     let P : Header × List ℕ → Type 0 = λ p. (s ≡ header-text (p .0) ++ p .1) × (header-ok (p .0) ≡ true) in
     subst P (ok-inj h5) (
       header-parts x s s1 s2 s3 s5
-      (word-sound (codes "register") register-of register-text register-laws s register s1 e1)
-      (b .0) (c .0)
-      (last-word-sound (codes "job") job-of job-text job-laws true s3 job s4 s5 u e4 e5),
-      and-from _ _ (le-leb _ _ (b .1)) (and-from _ _ (le-leb _ _ (b .2)) (and-from _ _ (le-leb _ _ (c .1)) (le-leb _ _ (c .2))))))))))
+          (word-sound (codes "register") register-of register-text register-laws s register s1 e1)
+          (b .0) (c .0)
+          (last-word-sound (codes "job") job-of job-text job-laws true s3 job s4 s5 u e4 e5),
+      and-from _ _ (le-leb _ _ (b .1)) (and-from _ _ (le-leb _ _ (b .2)) (and-from _ _ (le-leb _ _ (c .1)) (le-leb _ _ (c .2)))),
+    ))))))
 
 pub header-complete : (h : Header) (t : List ℕ) → header-ok h ≡ true → read-header (header-text h ++ t) ≡ Ok (h, t)
 unfolding read-header

@@ -48,9 +48,9 @@ module _ (kind : Kind) (laws : Lawful kind) where
       let b = last-sound (kind .names .key2) 0 (2 ^ 32 - 1) true (p .1) (q .0) (q .1) (r .1) (r .0) (omega arith) (q .2) (r .2) in
       ⊎-elim
       (λ yes-job.
-          let both = ok-inj (sym (cond-true _ _ _ yes-job) ∙ r .3) in
-          let P : (ℕ × ℕ) × List ℕ → Type 0 = λ x. (s ≡ pairs (x .0) ++ x .1) × (kind .accepts (x .0 .0) (x .0 .1) ≡ true) in
-          subst P both (a .0 ∙ ap (λ l. number-pair (kind .names .key1) (p .0) 32 ++ l) (b .0) ∙ sym (append-assoc (number-pair (kind .names .key1) (p .0) 32) (number-pair (kind .names .key2) (q .0) 10) (r .1)), yes-job))
+      let both = ok-inj (sym (cond-true _ _ _ yes-job) ∙ r .3) in
+      let P : (ℕ × ℕ) × List ℕ → Type 0 = λ x. (s ≡ pairs (x .0) ++ x .1) × (kind .accepts (x .0 .0) (x .0 .1) ≡ true) in
+      subst P both (a .0 ∙ ap (λ l. number-pair (kind .names .key1) (p .0) 32 ++ l) (b .0) ∙ sym (append-assoc (number-pair (kind .names .key1) (p .0) 32) (number-pair (kind .names .key2) (q .0) 10) (r .1)), yes-job))
       (λ no-job. absurd (err-ok (sym (cond-false _ _ _ no-job) ∙ r .3)))
       (cases-bool (kind .accepts (p .0) (q .0)))
 
@@ -129,7 +129,7 @@ module _ (kind : Kind) (laws : Lawful kind) where
         ∙ then-at _ (number-complete (codes "mark") 0 65535 (x .mark) _ (omega arith) (omega arith) (leb-true _ _ (r3 .0)))
         ∙ then-at _ (number-complete (codes "to") 0 65535 (x .to) _ (omega arith) (omega arith) (leb-true _ _ (r4 .0)))
         ∙ then-at _ (subst (λ n. pair (codes "task") (within 0 (hd .places - 2)) (number-pair (codes "task") (x .task) n ++ (job-pairs kind x ++ t)) ≡ Ok (x .task, n ∷ (job-pairs kind x ++ t))) (ender-not (shows x))
-          (last-complete (codes "task") 0 (hd .places - 2) last (x .task) (job-pairs kind x ++ t) (omega arith) (omega arith) (leb-true _ _ (r4 .1))))
+        (last-complete (codes "task") 0 (hd .places - 2) last (x .task) (job-pairs kind x ++ t) (omega arith) (omega arith) (leb-true _ _ (r4 .1))))
         ∙ then-at _ (subst (λ n. gap last (n ∷ (job-pairs kind x ++ t)) ≡ Ok (tt, job-pairs kind x ++ t)) (ender-not (shows x)) (gap-complete last (job-pairs kind x ++ t)))
         ∙ then-at _ (shown-complete (shows x) (x .first) (x .second) t job)
 

@@ -136,9 +136,10 @@ takes-what-is-written : (text : List ℕ) (list : List Entry) → Takes-what-is-
 takes-what-is-written text list = record {
   accepts = λ h es made fits.
       let r = page-complete (length list) text h es (page-written (length text) h es text made .0) fits in
-      let long = length-map es as-shown in
-      (ap (read-answer text) r ∙ ap (λ n. Ok (h, n)) long,
-      ap (λ x. take (length es) (list-of-page x list)) r ∙ ap (λ n. take n (written list 0 (map as-shown es))) (sym long) ∙ take-front list (map as-shown es) (omega arith));
+      let long = length-map es as-shown in (
+        ap (read-answer text) r ∙ ap (λ n. Ok (h, n)) long,
+        ap (λ x. take (length es) (list-of-page x list)) r ∙ ap (λ n. take n (written list 0 (map as-shown es))) (sym long) ∙ take-front list (map as-shown es) (omega arith),
+      );
   makes-again = λ h n e.
       let a = answer-ok text (read-page (length list) text) h n e in
       let p = page-sound (length list) text h (a .0) (a .1) in

@@ -4,17 +4,17 @@ ghost use mathlib.Core.Bool.{true};
 ghost use Rattle.std.specs.Vec.{made};
 ghost use Rattle.text.specs.Pairs.{outcome};
 ghost use Rattle.record.specs.Header.{header-text, header-ok, read-header};
+use crate::header::Header;
+use crate::header::JobKind;
+use crate::header::Register;
+use crate::words::JobKindSpelled;
+use crate::words::RegisterSpelled;
 use text::cursor::Spelled;
 use text::fault::Fault;
 use text::put::put_pair;
 use text::put::put_word;
 use text::reader::Reader;
 use text::sink::Sink;
-use crate::header::Header;
-use crate::header::JobKind;
-use crate::header::Register;
-use crate::words::JobKindSpelled;
-use crate::words::RegisterSpelled;
 
 pub(crate) fn read_head(r: &mut Reader<'_>) -> Result<Header, Fault>
     ensures value { λ o. ⌜ outcome o (now (now (r .exit) .rest)) ≡ read-header (now (now (r .entry) .rest)) ⌝ }
@@ -25,7 +25,12 @@ pub(crate) fn read_head(r: &mut Reader<'_>) -> Result<Header, Fault>
     let processors = r.number_field(b"processors", 1, 16)?;
     let job = r.word_at::<JobKind>(b"job")?;
     r.gap_at(true)?;
-    Ok(Header { register, places, processors, job })
+    Ok(Header {
+        register,
+        places,
+        processors,
+        job,
+    })
 }
 
 pub fn put_head<S: Sink<u8>>(s: &mut S, h: &Header)

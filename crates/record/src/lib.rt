@@ -4,12 +4,12 @@
 // list of entries; `write::write_page` takes a header and entries and fills a buffer. Each accepts
 // exactly what the other makes. `header` and `refusal` have the plain data; the other modules are
 // the parts of the two calls, generic in the job type.
-pub mod header;
-pub mod refusal;
-pub mod words;
 pub mod head;
+pub mod header;
 pub mod lines;
 pub mod ranges;
-pub mod read_lines;
-pub mod write;
 pub mod read;
+pub mod read_lines;
+pub mod refusal;
+pub mod words;
+pub mod write;

@@ -4,10 +4,10 @@ ghost use Prim.Native.Nat.{_≤_};
 ghost use Rattle.jobs.specs.JobType.{kind};
 ghost use Rattle.record.specs.Header.{header-ok};
 ghost use Rattle.record.specs.Write.{in-range, is-job, all-of};
-use entries::entry::Entry;
-use jobs::job::Job;
 use crate::header::Header;
 use crate::lines::shows_job;
+use entries::entry::Entry;
+use jobs::job::Job;
 
 pub(crate) fn header_in_range(h: &Header) -> bool
     ensures { λ r. ⌜ r ≡ header-ok (now (h .entry)) ⌝ }
@@ -19,7 +19,11 @@ fn entry_in_range(h: &Header, e: &Entry) -> bool
     requires { ⌜ 1 ≤ now h .processors ⌝ ∗ ⌜ 2 ≤ now h .places ⌝ }
     ensures { λ r. ⌜ r ≡ in-range (now (h .entry)) (now (e .entry)) ⌝ }
 {
-    e.processor <= h.processors - 1 && e.from <= 65535 && e.mark <= 65535 && e.to <= 65535 && e.task <= h.places - 2
+    e.processor <= h.processors - 1
+        && e.from <= 65535
+        && e.mark <= 65535
+        && e.to <= 65535
+        && e.task <= h.places - 2
 }
 
 fn entry_has_job<J: Job + Drop>(e: &Entry) -> bool

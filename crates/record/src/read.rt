@@ -7,6 +7,10 @@ ghost use Rattle.record.specs.Header.{header-ok};
 ghost use Rattle.record.specs.Words.{job-kind};
 ghost use Rattle.record.specs.Read.{read-entries, read-page, size-of, list-after, counted-page, read-answer, list-of-page};
 ghost use Rattle.record.specs.Trip.{Takes-what-is-written};
+use crate::head::read_head;
+use crate::header::Header;
+use crate::header::JobKind;
+use crate::read_lines::fill_list;
 use entries::entry::Entry;
 use jobs::check::Check;
 use jobs::check::CheckJob;
@@ -17,10 +21,6 @@ use text::fault::PlacedFault;
 use text::reader::Reader;
 use text::whole_text::check_whole;
 use text::whole_text::place_of;
-use crate::head::read_head;
-use crate::header::Header;
-use crate::header::JobKind;
-use crate::read_lines::fill_list;
 
 // The lines after the header, by the job type that the header names.
 fn read_lines(lines: &[u8], h: &Header, list: &mut [Entry]) -> Result<u32, Fault>

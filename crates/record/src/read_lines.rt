@@ -9,6 +9,8 @@ ghost use Rattle.jobs.specs.JobType.{kind};
 ghost use Rattle.text.specs.Pairs.{outcome};
 ghost use Rattle.entries.specs.declared.entry.Entry.{Entry as Entries};
 ghost use Rattle.record.specs.Read.{read-job, read-entry, read-entries, size-of, list-after};
+use crate::header::Header;
+use crate::lines::is_shown;
 use entries::entry::Call;
 use entries::entry::Entry;
 use entries::words::CallSpelled;
@@ -21,8 +23,6 @@ use text::reader::Reader;
 use text::sink::Buffer;
 use text::sink::Counter;
 use text::sink::Sink;
-use crate::header::Header;
-use crate::lines::is_shown;
 
 // The numbers of a job, which its type has to accept; a refusal lies at the first of the two.
 fn read_job_pairs<J: Job + Drop>(r: &mut Reader<'_>) -> Result<(u32, u32), Fault>
@@ -33,7 +33,10 @@ fn read_job_pairs<J: Job + Drop>(r: &mut Reader<'_>) -> Result<(u32, u32), Fault
     let b = r.number_at(J::second_key_bytes(), 0, u32::MAX)?;
     r.gap_at(true)?;
     if J::from_numbers(a, b).is_none() {
-        return Err(Fault { refusal: Refusal::JobRefused, left });
+        return Err(Fault {
+            refusal: Refusal::JobRefused,
+            left,
+        });
     }
     Ok((a, b))
 }
@@ -58,11 +61,25 @@ fn read_entry<J: Job + Drop>(r: &mut Reader<'_>, h: &Header, op: u32) -> Result<
         first = job.0;
         second = job.1;
     }
-    Ok(Entry { processor, call, from, mark, to, task, first, second })
+    Ok(Entry {
+        processor,
+        call,
+        from,
+        mark,
+        to,
+        task,
+        first,
+        second,
+    })
 }
 
 // Reads the lines to the end of the text, at most `room` of them, and hands each to `s`.
-fn read_all<S: Sink<Entry>, J: Job + Drop>(r: &mut Reader<'_>, h: &Header, room: u32, s: &mut S) -> Result<u32, Fault>
+fn read_all<S: Sink<Entry>, J: Job + Drop>(
+    r: &mut Reader<'_>,
+    h: &Header,
+    room: u32,
+    s: &mut S,
+) -> Result<u32, Fault>
     requires ranged { ⌜ 1 ≤ now h .processors ⌝ ∗ ⌜ 2 ≤ now h .places ⌝ }
     requires few { ⌜ room ≤ 32768 ⌝ }
     ensures value { λ o. ⌜ o ≡ size-of (read-entries (kind (J·Job .names) (J·Job .made)) (now (h .entry)) room 0 (now (now (r .entry) .rest))) ⌝ }
@@ -73,7 +90,10 @@ fn read_all<S: Sink<Entry>, J: Job + Drop>(r: &mut Reader<'_>, h: &Header, room:
         let left = r.rest.len();
         let e = read_entry::<J>(r, h, n + 1)?;
         if n >= room {
-            return Err(Fault { refusal: Refusal::ListFull, left });
+            return Err(Fault {
+                refusal: Refusal::ListFull,
+                left,
+            });
         }
         s.put(e);
         n += 1;
@@ -82,7 +102,11 @@ fn read_all<S: Sink<Entry>, J: Job + Drop>(r: &mut Reader<'_>, h: &Header, room:
 }
 
 // Fills the list from its start; the lines are read twice, so that a refusal leaves the list as it was.
-pub(crate) fn fill_list<J: Job + Drop>(lines: &[u8], h: &Header, list: &mut [Entry]) -> Result<u32, Fault>
+pub(crate) fn fill_list<J: Job + Drop>(
+    lines: &[u8],
+    h: &Header,
+    list: &mut [Entry],
+) -> Result<u32, Fault>
     requires { ⌜ 1 ≤ now h .processors ⌝ ∗ ⌜ 2 ≤ now h .places ⌝ }
     ensures value { λ o. ⌜ o ≡ size-of (read-entries (kind (J·Job .names) (J·Job .made)) (now (h .entry)) (min (length (now (list .entry))) 32768) 0 (now (lines .entry))) ⌝ }
     ensures filled { λ _. ⌜ now (list .exit) ≡ list-after (read-entries (kind (J·Job .names) (J·Job .made)) (now (h .entry)) (min (length (now (list .entry))) 32768) 0 (now (lines .entry))) (now (list .entry)) ⌝ }

@@ -1,6 +1,8 @@
 // The words of a header: registers and job types.
 ghost use Rattle.record.specs.Words.{register-text, register-of, job-text, job-of};
 ghost use Rattle.record.specs.WordLaws.{register-laws, job-laws};
+use crate::header::JobKind;
+use crate::header::Register;
 use jobs::check::Check;
 use jobs::check::CheckJob;
 use jobs::job::Job;
@@ -8,8 +10,6 @@ use jobs::span::Span;
 use jobs::span::SpanJob;
 use text::cursor::Spelled;
 use text::cursor::is_word;
-use crate::header::JobKind;
-use crate::header::Register;
 
 pub impl Spelled for Register as RegisterSpelled {
     ghost spells = { register-of };

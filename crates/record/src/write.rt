@@ -5,6 +5,14 @@ ghost use lib.ListN.{length};
 ghost use Rattle.jobs.specs.JobType.{kind};
 ghost use Rattle.record.specs.Write.{page-text, write-jobs, write-page, text-size, buffer-after};
 ghost use Rattle.record.specs.Trip.{Makes-what-is-read};
+use crate::head::put_head;
+use crate::header::Header;
+use crate::header::JobKind;
+use crate::lines::put_entries;
+use crate::ranges::all_have_jobs;
+use crate::ranges::all_in_range;
+use crate::ranges::header_in_range;
+use crate::refusal::WriteRefusal;
 use entries::entry::Entry;
 use jobs::check::Check;
 use jobs::check::CheckJob;
@@ -16,14 +24,6 @@ use text::ends::CounterSink;
 use text::sink::Buffer;
 use text::sink::Counter;
 use text::sink::Sink;
-use crate::head::put_head;
-use crate::header::Header;
-use crate::header::JobKind;
-use crate::lines::put_entries;
-use crate::ranges::all_have_jobs;
-use crate::ranges::all_in_range;
-use crate::ranges::header_in_range;
-use crate::refusal::WriteRefusal;
 
 fn put_page<S: Sink<u8>, J: Job>(s: &mut S, h: &Header, entries: &[Entry])
     requires { ⌜ length (now entries) < 2 ^ 32 ⌝ }
@@ -33,7 +33,11 @@ fn put_page<S: Sink<u8>, J: Job>(s: &mut S, h: &Header, entries: &[Entry])
     put_entries::<S, J>(s, entries);
 }
 
-fn write_jobs<J: Job + Drop>(h: &Header, entries: &[Entry], out: &mut [u8]) -> Result<usize, WriteRefusal>
+fn write_jobs<J: Job + Drop>(
+    h: &Header,
+    entries: &[Entry],
+    out: &mut [u8],
+) -> Result<usize, WriteRefusal>
     ensures value { λ r. ⌜ r ≡ text-size (write-jobs (kind (J·Job .names) (J·Job .made)) (length (now (out .entry))) (now (h .entry)) (now (entries .entry))) ⌝ }
     ensures bytes { λ _. ⌜ now (out .exit) ≡ buffer-after (write-jobs (kind (J·Job .names) (J·Job .made)) (length (now (out .entry))) (now (h .entry)) (now (entries .entry))) (now (out .entry)) ⌝ }
 {

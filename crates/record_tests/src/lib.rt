@@ -12,17 +12,46 @@ use text::sink::Buffer;
 
 // What stands in a list before it is lent.
 pub fn junk() -> Entry {
-    Entry { processor: 9, call: Call::Steal, from: 77, mark: 78, to: 79, task: 80, first: 81, second: 82 }
+    Entry {
+        processor: 9,
+        call: Call::Steal,
+        from: 77,
+        mark: 78,
+        to: 79,
+        task: 80,
+        first: 81,
+        second: 82,
+    }
 }
 
-pub fn entry(processor: u32, call: Call, stamps: (u32, u32, u32), task: u32, job: (u32, u32)) -> Entry {
+pub fn entry(
+    processor: u32,
+    call: Call,
+    stamps: (u32, u32, u32),
+    task: u32,
+    job: (u32, u32),
+) -> Entry {
     let (from, mark, to) = stamps;
     let (first, second) = job;
-    Entry { processor, call, from, mark, to, task, first, second }
+    Entry {
+        processor,
+        call,
+        from,
+        mark,
+        to,
+        task,
+        first,
+        second,
+    }
 }
 
 pub fn small_header(job: JobKind) -> Header {
-    Header { register: Register::Word, places: 4, processors: 2, job }
+    Header {
+        register: Register::Word,
+        places: 4,
+        processors: 2,
+        job,
+    }
 }
 
 // What comes of reading a page into a list of four: the refusal's number, line and byte, or 0 and the
@@ -58,7 +87,10 @@ pub fn of_spans(lines: &[u8]) -> (u32, usize, usize) {
 
 fn joined(header: &[u8], lines: &[u8]) -> (u32, usize, usize) {
     let mut page = [0u8; 300];
-    let mut fill = Buffer { out: &mut page, at: 0 };
+    let mut fill = Buffer {
+        out: &mut page,
+        at: 0,
+    };
     put_bytes(&mut fill, header);
     put_bytes(&mut fill, lines);
     let n = fill.at.min(300);

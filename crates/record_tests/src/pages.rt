@@ -1,4 +1,7 @@
 // Whole pages, written and read.
+use crate::entry;
+use crate::junk;
+use crate::small_header;
 use entries::entry::Call;
 use entries::entry::CallDebug;
 use entries::entry::CallPartialEq;
@@ -15,9 +18,6 @@ use record::refusal::WriteRefusalDebug;
 use record::write::write_page;
 use std::test::*;
 use text::fault::PlacedFaultDebug;
-use crate::entry;
-use crate::junk;
-use crate::small_header;
 
 fn check_page() -> &'static [u8] {
     b"register=word places=4 processors=2 job=check\nop=1 proc=0 call=put from=1 mark=2 to=3 task=1 line=12 limit=40\nop=2 proc=1 call=steal from=4 mark=6 to=10 task=1 line=12 limit=40\nop=3 proc=0 call=take from=5 mark=7 to=11 task=1 line=12 limit=40\n"
@@ -37,7 +37,12 @@ fn span_page() -> &'static [u8] {
 }
 
 fn span_header() -> Header {
-    Header { register: Register::Range, places: 257, processors: 16, job: JobKind::Span }
+    Header {
+        register: Register::Range,
+        places: 257,
+        processors: 16,
+        job: JobKind::Span,
+    }
 }
 
 fn span_entries() -> [Entry; 4] {

@@ -59,14 +59,14 @@ number-sound most n [] small e = let z : _≡_ {A = ℕ} 0 1 = cc in absurd (ome
 number-sound most n (c ∷ cs) small e =
     ⊎-elim
     (λ zero-first.
-        let p = alone-sound cs n (sym (cond-true _ _ _ zero-first) ∙ e) in
-        let is : c ≡ 48 = eqb-true c 48 zero-first in
-        let none : n ≡ 0 = p .1 in
-        (ap (λ x. x ∷ cs) is ∙ ap (λ l. 48 ∷ l) (p .0) ∙ sym (decimal-digit 0 (omega arith)) ∙ ap decimal (sym none), omega arith))
+    let p = alone-sound cs n (sym (cond-true _ _ _ zero-first) ∙ e) in
+    let is : c ≡ 48 = eqb-true c 48 zero-first in
+    let none : n ≡ 0 = p .1 in
+    (ap (λ x. x ∷ cs) is ∙ ap (λ l. 48 ∷ l) (p .0) ∙ sym (decimal-digit 0 (omega arith)) ∙ ap decimal (sym none), omega arith))
     (λ other.
-        let p = figures-sound most 0 n (c ∷ cs) (omega arith) (sym (cond-false _ _ _ other) ∙ e) in
-        let back = decimal-value own (c ∷ cs) (p .0) (omega arith) (λ first. absurd (eqb-false c 48 other first)) (omega (arith, p .1, p .2)) in
-        (sym back ∙ ap decimal (p .1), p .2))
+    let p = figures-sound most 0 n (c ∷ cs) (omega arith) (sym (cond-false _ _ _ other) ∙ e) in
+    let back = decimal-value own (c ∷ cs) (p .0) (omega arith) (λ first. absurd (eqb-false c 48 other first)) (omega (arith, p .1, p .2)) in
+    (sym back ∙ ap decimal (p .1), p .2))
     (cases-bool (eqb c 48))
 
 number-first : (most n : ℕ) (bs : List ℕ) → 48 < getD bs 0 0 → number most bs ≡ figures most 0 bs
@@ -81,8 +81,8 @@ number-complete most n small fits =
     ⊎-elim
     (λ none. ap (λ m. number most (decimal m)) none ∙ ap (number most) (decimal-digit 0 (omega arith)) ∙ ap Some (sym none))
     (λ some.
-        let same = value-decimal own n (omega arith) in
-        number-first most n (decimal n) (first-decimal n some (omega arith))
-        ∙ figures-complete most 0 (decimal n) (digits-decimal own n (omega arith)) (omega (arith, same))
-        ∙ ap Some same)
+    let same = value-decimal own n (omega arith) in
+    number-first most n (decimal n) (first-decimal n some (omega arith))
+    ∙ figures-complete most 0 (decimal n) (digits-decimal own n (omega arith)) (omega (arith, same))
+    ∙ ap Some same)
     (zero-or n)

@@ -33,8 +33,8 @@ unfolding written
 drop-written out at bs k fits =
     sym (drop-drop k (at + length bs) _)
     ∙ ap (drop k) (
-      ap (drop (at + length bs)) (sym (append-assoc (take at out) bs _))
-      ∙ drop-at (take at out ++ bs) _ _ (length-append (take at out) bs ∙ ap (λ n. n + length bs) (length-take-le at out (omega arith))))
+    ap (drop (at + length bs)) (sym (append-assoc (take at out) bs _))
+    ∙ drop-at (take at out ++ bs) _ _ (length-append (take at out) bs ∙ ap (λ n. n + length bs) (length-take-le at out (omega arith))))
     ∙ drop-drop k (at + length bs) out
 
 -- one write after another

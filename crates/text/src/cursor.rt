@@ -9,9 +9,9 @@ ghost use Rattle.std.specs.shelf.Text.{sameBytes};
 ghost use Rattle.std.specs.declared.option.Option.{Option};
 ghost use Rattle.text.specs.Figures.{within};
 ghost use Rattle.text.specs.Pairs.{keyed, word, pair, gap, field, never, outcome, Spells};
-use crate::figures::read_within;
 use crate::fault::Fault;
 use crate::fault::Refusal;
+use crate::figures::read_within;
 use crate::reader::Reader;
 
 // A value that a word spells.
@@ -73,11 +73,17 @@ impl<'a> Reader<'a> {
         ensures { λ r. ⌜ outcome r (now (now (self .exit) .rest)) ≡ pair (now (key .entry)) (within low most) (now (now (self .entry) .rest)) ⌝ }
     {
         let Some(text) = after_key(self.rest, key) else {
-            return Err(Fault { refusal: Refusal::OtherKey, left: self.rest.len() });
+            return Err(Fault {
+                refusal: Refusal::OtherKey,
+                left: self.rest.len(),
+            });
         };
         let n = word_len(text);
         let Some(v) = read_within(&text[0..n], low, most) else {
-            return Err(Fault { refusal: Refusal::BadValue, left: text.len() });
+            return Err(Fault {
+                refusal: Refusal::BadValue,
+                left: text.len(),
+            });
         };
         self.rest = &text[n..];
         Ok(v)
@@ -88,11 +94,17 @@ impl<'a> Reader<'a> {
         ensures { λ r. ⌜ outcome r (now (now (self .exit) .rest)) ≡ pair (now (key .entry)) (W·Spelled .spells) (now (now (self .entry) .rest)) ⌝ }
     {
         let Some(text) = after_key(self.rest, key) else {
-            return Err(Fault { refusal: Refusal::OtherKey, left: self.rest.len() });
+            return Err(Fault {
+                refusal: Refusal::OtherKey,
+                left: self.rest.len(),
+            });
         };
         let n = word_len(text);
         let Some(v) = W::from_word(&text[0..n]) else {
-            return Err(Fault { refusal: Refusal::BadValue, left: text.len() });
+            return Err(Fault {
+                refusal: Refusal::BadValue,
+                left: text.len(),
+            });
         };
         self.rest = &text[n..];
         Ok(v)
@@ -122,15 +134,24 @@ impl<'a> Reader<'a> {
     {
         let left = self.rest.len();
         if left == 0 {
-            return Err(Fault { refusal: Refusal::OtherKey, left });
+            return Err(Fault {
+                refusal: Refusal::OtherKey,
+                left,
+            });
         }
         let c = self.rest[0];
         if last {
             if c != b'\n' {
-                return Err(Fault { refusal: Refusal::Surplus, left });
+                return Err(Fault {
+                    refusal: Refusal::Surplus,
+                    left,
+                });
             }
         } else if c != b' ' {
-            return Err(Fault { refusal: Refusal::OtherKey, left });
+            return Err(Fault {
+                refusal: Refusal::OtherKey,
+                left,
+            });
         }
         self.rest = &self.rest[1..];
         Ok(())

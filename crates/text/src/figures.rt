@@ -33,12 +33,6 @@ pub fn read_within(word: &[u8], low: u32, most: u32) -> Option<u32>
 {
     match read_number(word, most) {
         None => None,
-        Some(n) => {
-            if low <= n {
-                Some(n)
-            } else {
-                None
-            }
-        }
+        Some(n) => { if low <= n { Some(n) } else { None } }
     }
 }

@@ -3,13 +3,13 @@
 // `reader` and `cursor` read pair by pair, `figures` the numbers; `whole_text` has what is asked of a
 // whole text and where in it a fault lies. `sink` and `put` write: a page is put into a sink that
 // counts, and then, if it fits, into one that fills a lent buffer. `fault` has the refusals.
-pub mod fault;
-pub mod reader;
-pub mod figures;
 pub mod cursor;
-pub mod whole_text;
-pub mod sink;
 pub mod ends;
-pub mod put;
-pub mod fault_line;
 pub mod exact;
+pub mod fault;
+pub mod fault_line;
+pub mod figures;
+pub mod put;
+pub mod reader;
+pub mod sink;
+pub mod whole_text;

@@ -38,14 +38,23 @@ pub fn check_whole(text: &[u8], most: usize) -> Result<(), Fault>
     ensures { λ r. ⌜ r ≡ whole most (now (text .entry)) ⌝ }
 {
     if text.len() > most {
-        return Err(Fault { refusal: Refusal::TooLong, left: text.len() });
+        return Err(Fault {
+            refusal: Refusal::TooLong,
+            left: text.len(),
+        });
     }
     let left = bad_left(text);
     if left > 0 {
-        return Err(Fault { refusal: Refusal::BadByte, left });
+        return Err(Fault {
+            refusal: Refusal::BadByte,
+            left,
+        });
     }
     if !is_ended(text) {
-        return Err(Fault { refusal: Refusal::Unended, left: 0 });
+        return Err(Fault {
+            refusal: Refusal::Unended,
+            left: 0,
+        });
     }
     Ok(())
 }
@@ -73,5 +82,9 @@ pub fn place_of(text: &[u8], f: Fault) -> PlacedFault
 {
     let at = text.len().saturating_sub(f.left);
     let (line, byte) = locate(&text[0..at]);
-    PlacedFault { refusal: f.refusal, line, byte }
+    PlacedFault {
+        refusal: f.refusal,
+        line,
+        byte,
+    }
 }

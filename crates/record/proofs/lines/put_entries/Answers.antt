@@ -6,11 +6,13 @@ use Rattle.record.specs.Lines.{entries-text}
 use Rattle.record.proofs.lines.put_entries.Needs as need
 
 pub loop-e-again : need.loop-e-again
-loop-e-again g c =
-    (omega arith, λ u rest. c .loop-e .inv .1 u
-    (subst (λ l. g .S·Sink .took (c .loop-e .s) l u)
-    (sym (at-drop-more (entries-text (kind (g .J·Job .names) (g .J·Job .made)) (c .loop-e .op)) (c .args .entries .now) (c .loop-e .e-index) _ (c .loop-e-test .taken)))
-    (g .S·Sink .laws .join _ _ _ _ _ (c .put-entry .ensures) rest)))
+loop-e-again g c = (
+  omega arith,
+  λ u rest. c .loop-e .inv .1 u
+      (subst (λ l. g .S·Sink .took (c .loop-e .s) l u)
+      (sym (at-drop-more (entries-text (kind (g .J·Job .names) (g .J·Job .made)) (c .loop-e .op)) (c .args .entries .now) (c .loop-e .e-index) _ (c .loop-e-test .taken)))
+      (g .S·Sink .laws .join _ _ _ _ _ (c .put-entry .ensures) rest)),
+)
 
 pub returns : need.returns
 returns g c =

@@ -11,7 +11,7 @@ unfolding job-pairs
 returns-then-shows-job g c =
     let e = c .args .e .now in
     let keys : number-pair (c .first-key-bytes .result .now) (e .first) 32 ++ number-pair (c .second-key-bytes .result .now) (e .second) 10 ≡ number-pair (g .J·Job .names .key1) (e .first) 32 ++ number-pair (g .J·Job .names .key2) (e .second) 10
-        = λ i. number-pair (c .first-key-bytes .ensures i) (e .first) 32 ++ number-pair (c .second-key-bytes .ensures i) (e .second) 10 in
+    = λ i. number-pair (c .first-key-bytes .ensures i) (e .first) 32 ++ number-pair (c .second-key-bytes .ensures i) (e .second) 10 in
     subst (λ l. g .S·Sink .took (c .args .s .now) l (c .put-pair-then-shows-job .last .s))
     (keys ∙ sym (cond-true _ _ _ (sym (c .if-shows-job .ensures tt))))
     (g .S·Sink .laws .join _ _ _ _ _ (c .put-pair .ensures) (c .put-pair-then-shows-job .ensures))

@@ -20,10 +20,15 @@ loop-left-holds g c =
 pub loop-left-again : need.loop-left-again
 loop-left-again g c =
     let i = c .loop-left .inv .1 in
-    let some : 0 < length (c .loop-left .r .rest .now) = omega (arith, false-eqb _ 0 (c .loop-left-test .ensures tt)) in
-    (omega arith, (i .0 ++ (c .in-Continue-e .e ∷ []), omega (arith, length-append (i .0) (c .in-Continue-e .e ∷ []), i .1),
-    g .S·Sink .laws .join _ _ _ _ _ (i .2) (c .put .ensures),
-    all-again _ _ _ _ _ _ _ _ _ (c .if-n-room .left) some (i .3) (sym (c .in-Continue-e .ensures tt))))
+    let some : 0 < length (c .loop-left .r .rest .now) = omega (arith, false-eqb _ 0 (c .loop-left-test .ensures tt)) in (
+      omega arith,
+      (
+        i .0 ++ (c .in-Continue-e .e ∷ []),
+        omega (arith, length-append (i .0) (c .in-Continue-e .e ∷ []), i .1),
+        g .S·Sink .laws .join _ _ _ _ _ (i .2) (c .put .ensures),
+        all-again _ _ _ _ _ _ _ _ _ (c .if-n-room .left) some (i .3) (sym (c .in-Continue-e .ensures tt)),
+      ),
+    )
 
 pub returns-then-n-room : need.returns-then-n-room
 returns-then-n-room g c =

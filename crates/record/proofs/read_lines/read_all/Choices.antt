@@ -14,9 +14,9 @@ abbrev pub Inv-loop-left : given.InvT-loop-left
 Inv-loop-left g l =
     (l .n ≤ l .room)
     × ((front : List Entry)
-      × (length front ≡ l .n)
-      × (g .S·Sink .took (l .entry .s) front (l .s))
-      × (read-entries (kind (g .J·Job .names) (g .J·Job .made)) (l .h) (l .room) 0 (now (l .entry .r .rest)) ≡ with-all front (read-entries (kind (g .J·Job .names) (g .J·Job .made)) (l .h) (l .room - l .n) (l .n) (now (l .r .rest)))))
+    × (length front ≡ l .n)
+    × (g .S·Sink .took (l .entry .s) front (l .s))
+    × (read-entries (kind (g .J·Job .names) (g .J·Job .made)) (l .h) (l .room) 0 (now (l .entry .r .rest)) ≡ with-all front (read-entries (kind (g .J·Job .names) (g .J·Job .made)) (l .h) (l .room - l .n) (l .n) (now (l .r .rest)))))
 
 abbrev pub μ-loop-left : given.MeasureT-loop-left
 μ-loop-left g l = l .room - l .n
