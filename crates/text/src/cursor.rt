@@ -5,10 +5,12 @@ ghost use Prim.Native.Nat.{ℕ, _≤_};
 ghost use lib.ListN.{length};
 ghost use denote.Ref.{now};
 ghost use Rattle.std.specs.Options.{mapped};
+ghost use Rattle.std.specs.Written.{decimal};
 ghost use Rattle.std.specs.shelf.Text.{sameBytes};
 ghost use Rattle.std.specs.declared.option.Option.{Option};
+ghost use Rattle.text.specs.Exact.{Between, Any, Reads-pair, Reads-end, Reads-field};
 ghost use Rattle.text.specs.Figures.{within};
-ghost use Rattle.text.specs.Pairs.{keyed, word, pair, gap, field, never, outcome, Spells};
+ghost use Rattle.text.specs.Pairs.{keyed, word, outcome, Spells};
 use crate::fault::Fault;
 use crate::fault::Refusal;
 use crate::figures::read_within;
@@ -37,7 +39,7 @@ pub fn is_word(word: &[u8], text: &[u8]) -> bool
 }
 
 // What is left after `key` and `=`.
-pub fn after_key<'a>(text: &'a [u8], key: &[u8]) -> Option<&'a [u8]>
+fn after_key<'a>(text: &'a [u8], key: &[u8]) -> Option<&'a [u8]>
     ensures { λ r. ⌜ mapped now r ≡ keyed (now (key .entry)) (now (text .entry)) ⌝ }
 {
     let n = key.len();
@@ -56,7 +58,7 @@ pub fn after_key<'a>(text: &'a [u8], key: &[u8]) -> Option<&'a [u8]>
 }
 
 // How many bytes stand before the first space or newline.
-pub fn word_len(text: &[u8]) -> usize
+fn word_len(text: &[u8]) -> usize
     ensures value { λ r. ⌜ r ≡ length (word (now (text .entry))) ⌝ }
     ensures within { λ r. ⌜ r ≤ length (now (text .entry)) ⌝ }
 {
@@ -70,7 +72,7 @@ pub fn word_len(text: &[u8]) -> usize
 impl<'a> Reader<'a> {
     // The number at `key`, from `low` to `most`.
     pub fn number_at(&mut self, key: &[u8], low: u32, most: u32) -> Result<u32, Fault>
-        ensures { λ r. ⌜ outcome r (now (now (self .exit) .rest)) ≡ pair (now (key .entry)) (within low most) (now (now (self .entry) .rest)) ⌝ }
+        ensures { λ r. ⌜ Reads-pair (now (key .entry)) (within low most) decimal (Between low most) (now (now (self .entry) .rest)) (outcome r (now (now (self .exit) .rest))) ⌝ }
     {
         let Some(text) = after_key(self.rest, key) else {
             return Err(Fault {
@@ -91,7 +93,7 @@ impl<'a> Reader<'a> {
 
     // The value at `key` that is spelled by a word.
     pub fn word_at<W: Spelled>(&mut self, key: &[u8]) -> Result<W, Fault>
-        ensures { λ r. ⌜ outcome r (now (now (self .exit) .rest)) ≡ pair (now (key .entry)) (W·Spelled .spells) (now (now (self .entry) .rest)) ⌝ }
+        ensures { λ r. ⌜ Reads-pair (now (key .entry)) (W·Spelled .spells) (W·Spelled .text) Any (now (now (self .entry) .rest)) (outcome r (now (now (self .exit) .rest))) ⌝ }
     {
         let Some(text) = after_key(self.rest, key) else {
             return Err(Fault {
@@ -112,7 +114,7 @@ impl<'a> Reader<'a> {
 
     // The number at `key`, with the space after it.
     pub fn number_field(&mut self, key: &[u8], low: u32, most: u32) -> Result<u32, Fault>
-        ensures { λ r. ⌜ outcome r (now (now (self .exit) .rest)) ≡ field (now (key .entry)) (within low most) never (now (now (self .entry) .rest)) ⌝ }
+        ensures { λ r. ⌜ Reads-field (now (key .entry)) (within low most) decimal (Between low most) (now (now (self .entry) .rest)) (outcome r (now (now (self .exit) .rest))) ⌝ }
     {
         let v = self.number_at(key, low, most)?;
         self.gap_at(false)?;
@@ -121,7 +123,7 @@ impl<'a> Reader<'a> {
 
     // The value at `key` that is spelled by a word, with the space after it.
     pub fn word_field<W: Spelled + Drop>(&mut self, key: &[u8]) -> Result<W, Fault>
-        ensures { λ r. ⌜ outcome r (now (now (self .exit) .rest)) ≡ field (now (key .entry)) (W·Spelled .spells) never (now (now (self .entry) .rest)) ⌝ }
+        ensures { λ r. ⌜ Reads-field (now (key .entry)) (W·Spelled .spells) (W·Spelled .text) Any (now (now (self .entry) .rest)) (outcome r (now (now (self .exit) .rest))) ⌝ }
     {
         let v = self.word_at::<W>(key)?;
         self.gap_at(false)?;
@@ -130,7 +132,7 @@ impl<'a> Reader<'a> {
 
     // The end of a pair.
     pub fn gap_at(&mut self, last: bool) -> Result<(), Fault>
-        ensures { λ r. ⌜ outcome r (now (now (self .exit) .rest)) ≡ gap last (now (now (self .entry) .rest)) ⌝ }
+        ensures { λ r. ⌜ Reads-end last (now (now (self .entry) .rest)) (outcome r (now (now (self .exit) .rest))) ⌝ }
     {
         let left = self.rest.len();
         if left == 0 {

@@ -1,9 +1,10 @@
 // Numbers in base ten, without leading zeros.
 ghost use mathlib.Core.Path.{_≡_};
-ghost use Rattle.text.specs.Figures.{number, within};
+ghost use Rattle.text.specs.Exact.{Reads-number};
+ghost use Rattle.text.specs.Figures.{number};
 
 // The number that all of `word` writes, if it is at most `most`.
-pub fn read_number(word: &[u8], most: u32) -> Option<u32>
+fn read_number(word: &[u8], most: u32) -> Option<u32>
     ensures { λ r. ⌜ r ≡ number most (now (word .entry)) ⌝ }
 {
     if word.is_empty() {
@@ -29,7 +30,7 @@ pub fn read_number(word: &[u8], most: u32) -> Option<u32>
 
 // The number that all of `word` writes, from `low` to `most`.
 pub fn read_within(word: &[u8], low: u32, most: u32) -> Option<u32>
-    ensures { λ r. ⌜ r ≡ within low most (now (word .entry)) ⌝ }
+    ensures { λ r. ⌜ Reads-number low most (now (word .entry)) r ⌝ }
 {
     match read_number(word, most) {
         None => None,

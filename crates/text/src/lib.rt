@@ -5,7 +5,6 @@
 // counts, and then, if it fits, into one that fills a lent buffer. `fault` has the refusals.
 pub mod cursor;
 pub mod ends;
-pub mod exact;
 pub mod fault;
 pub mod fault_line;
 pub mod figures;

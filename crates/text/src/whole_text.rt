@@ -2,7 +2,8 @@
 ghost use mathlib.Core.Path.{_≡_};
 ghost use lib.ListN.{length};
 ghost use Rattle.text.specs.Bytes.{plain-byte};
-ghost use Rattle.text.specs.Whole.{ended, from-bad, whole, after-bytes, placed};
+ghost use Rattle.text.specs.Exact.{Passes-whole};
+ghost use Rattle.text.specs.Whole.{ended, from-bad, after-bytes, placed};
 use crate::fault::Fault;
 use crate::fault::PlacedFault;
 use crate::fault::Refusal;
@@ -35,7 +36,7 @@ fn is_ended(text: &[u8]) -> bool
 
 // What is asked of a text before any line of it is read: at most `most` bytes, all of them plain, the last a newline.
 pub fn check_whole(text: &[u8], most: usize) -> Result<(), Fault>
-    ensures { λ r. ⌜ r ≡ whole most (now (text .entry)) ⌝ }
+    ensures { λ r. ⌜ Passes-whole most (now (text .entry)) r ⌝ }
 {
     if text.len() > most {
         return Err(Fault {

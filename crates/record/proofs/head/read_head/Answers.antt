@@ -31,6 +31,6 @@ returns-in-Break-gap-at c = search needs
 pub returns : need.returns
 unfolding read-header then
 returns c =
-    let p = number-sound (codes "places") 3 257 _ _ _ (omega arith) (sym (c .in-Continue-places .ensures tt)) in
-    let q = number-sound (codes "processors") 1 16 _ _ _ (omega arith) (sym (c .in-Continue-processors .ensures tt)) in
+    let p = number-sound (codes "places") 3 257 _ _ _ (omega arith) (sym (c .in-Continue-places .ensures tt .is)) in
+    let q = number-sound (codes "processors") 1 16 _ _ _ (omega arith) (sym (c .in-Continue-processors .ensures tt .is)) in
     record { value = search needs; ranged = and-from _ _ (le-leb _ _ (p .1)) (and-from _ _ (le-leb _ _ (p .2)) (and-from _ _ (le-leb _ _ (q .1)) (le-leb _ _ (q .2)))) }

@@ -20,14 +20,14 @@ returns-in-Break-header c = search needs
 pub read-lines-requires : need.read-lines-requires
 read-lines-requires c κs =
     let told = c .in-Continue-header .ensures tt in
-    record { ranged = told .ranged; short = rest-short (c .args .text .now) _ _ _ (sym (c .in-Continue-check-whole .ensures tt)) (sym (told .value)) }
+    record { ranged = told .ranged; short = rest-short (c .args .text .now) _ _ _ (sym (c .in-Continue-check-whole .ensures tt .is)) (sym (told .value)) }
 
 pub returns-in-Break-n : need.returns-in-Break-n
 returns-in-Break-n c =
     let h = c .in-Continue-header .header in
     let room = length (c .args .list .now) in
     let read = read-entries (job-kind (h .job)) h room 0 (c .read-head .last .r .rest .now) in
-    let is = page-is room (c .args .text .now) tt h (c .read-head .last .r .rest .now) (sym (c .in-Continue-check-whole .ensures tt)) (sym (c .in-Continue-header .ensures tt .value)) in
+    let is = page-is room (c .args .text .now) tt h (c .read-head .last .r .rest .now) (sym (c .in-Continue-check-whole .ensures tt .is)) (sym (c .in-Continue-header .ensures tt .value)) in
     let told = c .in-Break-n .ensures tt in
     let p = err-from-errBy (c .from-residual-in-Break-n .result) (c .from-residual-in-Break-n .ensures .1) in
     record {
@@ -40,7 +40,7 @@ returns c =
     let h = c .in-Continue-header .header in
     let room = length (c .args .list .now) in
     let read = read-entries (job-kind (h .job)) h room 0 (c .read-head .last .r .rest .now) in
-    let is = page-is room (c .args .text .now) tt h (c .read-head .last .r .rest .now) (sym (c .in-Continue-check-whole .ensures tt)) (sym (c .in-Continue-header .ensures tt .value)) in
+    let is = page-is room (c .args .text .now) tt h (c .read-head .last .r .rest .now) (sym (c .in-Continue-check-whole .ensures tt .is)) (sym (c .in-Continue-header .ensures tt .value)) in
     let told = c .in-Continue-n .ensures tt in
     record {
       value = counted-ok h read _ (told .value) ∙ sym (ap counted-page is);
