@@ -5,6 +5,6 @@
 // from the bytes of a record page to the bytes that somebody sees.
 pub mod lane;
 pub mod listing;
-pub mod scale;
 pub mod report;
+pub mod scale;
 pub mod timeline;

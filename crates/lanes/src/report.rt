@@ -3,6 +3,7 @@ ghost use mathlib.Core.Path.{_≡_};
 ghost use lib.ListN.{length};
 ghost use Rattle.record.specs.Read.{read-page, list-of-page};
 ghost use Rattle.lanes.specs.Report.{answer-text, report-text, report-size, report-buffer};
+use crate::timeline::put_timeline;
 use entries::entry::Entry;
 use record::header::Header;
 use record::read::read_page;
@@ -13,10 +14,14 @@ use text::fault_line::put_fault;
 use text::sink::Buffer;
 use text::sink::Counter;
 use text::sink::Sink;
-use crate::timeline::put_timeline;
 
 // What the reader answered, and the list that it left.
-fn put_answer<S: Sink<u8>>(s: &mut S, answer: &Result<(Header, u32), PlacedFault>, list: &[Entry], width: usize)
+fn put_answer<S: Sink<u8>>(
+    s: &mut S,
+    answer: &Result<(Header, u32), PlacedFault>,
+    list: &[Entry],
+    width: usize,
+)
     ensures { λ _. ⌜ S·Sink .took (now (s .entry)) (answer-text (now (answer .entry)) (now (list .entry)) width) (now (s .exit)) ⌝ }
 {
     match answer {
