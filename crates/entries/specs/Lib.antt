@@ -1,2 +1,4 @@
 pub mod Calls
 pub mod CallLaws
+pub mod HeaderWords
+pub mod HeaderWordLaws

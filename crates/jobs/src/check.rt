@@ -4,7 +4,7 @@ ghost use Rattle.jobs.specs.CheckLaws.{check-laws};
 use crate::job::Job;
 
 // `line` is 1 to 1,024; `limit`, the largest resistance that passes, is 1 to 999 tenths of an ohm.
-#[derive(Clone, Copy, PartialEq, Eq, Debug)]
+#[derive(Clone, Copy)]
 pub struct Check {
     pub line: u32,
     pub limit: u32,

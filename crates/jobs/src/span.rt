@@ -4,7 +4,7 @@ ghost use Rattle.jobs.specs.SpanLaws.{span-laws};
 use crate::job::Job;
 
 // `first` and `last` are show ticks, 0 to 4,000,000, with `last` not below `first`.
-#[derive(Clone, Copy, PartialEq, Eq, Debug)]
+#[derive(Clone, Copy)]
 pub struct Span {
     pub first: u32,
     pub last: u32,

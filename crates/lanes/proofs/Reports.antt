@@ -13,7 +13,7 @@ use Rattle.text.specs.declared.fault.PlacedFault.{PlacedFault}
 use Rattle.entries.specs.declared.entry.Entry.{Entry}
 use Rattle.record.specs.Read.{read-page, read-answer, list-of-page}
 use Rattle.record.specs.Trip.{Takes-what-is-written}
-use Rattle.record.specs.declared.header.Header.{Header}
+use Rattle.entries.specs.declared.header.Header.{Header}
 use Rattle.lanes.specs.Report.{answer-text, page-report, report-text}
 use Rattle.lanes.specs.Timeline.{timeline-text}
 

@@ -13,7 +13,7 @@ use Rattle.text.specs.declared.fault.Fault.{Fault}
 use Rattle.text.specs.declared.fault.PlacedFault.{PlacedFault}
 use Rattle.entries.specs.declared.entry.Entry.{Entry}
 use Rattle.record.specs.Read.{read-page}
-use Rattle.record.specs.declared.header.Header.{Header}
+use Rattle.entries.specs.declared.header.Header.{Header}
 use Rattle.lanes.specs.Timeline.{timeline-text}
 
 -- what a reader's answer and the list that it left come to

@@ -8,8 +8,8 @@ use Rattle.std.specs.Joined.{joined}
 use Rattle.std.specs.Written.{decimal}
 use Rattle.entries.specs.declared.entry.Entry.{Entry}
 use Rattle.record.specs.Header.{header-text}
-use Rattle.record.specs.Words.{job-kind}
-use Rattle.record.specs.declared.header.Header.{Header}
+use Rattle.entries.specs.HeaderWords.{job-kind}
+use Rattle.entries.specs.declared.header.Header.{Header}
 use Rattle.lanes.specs.Lane.{lane-text}
 use Rattle.lanes.specs.Listing.{listing}
 use Rattle.lanes.specs.Scale.{scale-of}

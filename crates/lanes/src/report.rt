@@ -5,7 +5,7 @@ ghost use Rattle.record.specs.Read.{read-page, list-of-page};
 ghost use Rattle.lanes.specs.Report.{answer-text, report-text, report-size, report-buffer};
 use crate::timeline::put_timeline;
 use entries::entry::Entry;
-use record::header::Header;
+use entries::header::Header;
 use record::read::read_page;
 use text::ends::BufferSink;
 use text::ends::CounterSink;

@@ -5,7 +5,7 @@ ghost use Rattle.lanes.specs.Scale.{last-stamp, scale-of, column, end-of, cove
 use entries::entry::Entry;
 
 // The stamps 1 to `last` lie from left to right on the columns. `last` is at least 1.
-#[derive(Clone, Copy, PartialEq, Eq, Debug)]
+#[derive(Clone, Copy)]
 pub struct Scale {
     pub last: u32,
     pub columns: u32,

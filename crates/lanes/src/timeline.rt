@@ -1,7 +1,7 @@
 // The whole text of a timeline.
 ghost use Prim.Native.Nat.{_^_, _<_, _≤_};
 ghost use lib.ListN.{length, take};
-ghost use Rattle.record.specs.Words.{job-kind};
+ghost use Rattle.entries.specs.HeaderWords.{job-kind};
 ghost use Rattle.lanes.specs.Listing.{listing};
 ghost use Rattle.lanes.specs.Tells.{Lanes-tell};
 ghost use Rattle.lanes.specs.Timeline.{title, lanes-text, timeline-text};
@@ -10,13 +10,13 @@ use crate::listing::put_listing;
 use crate::scale::Scale;
 use crate::scale::scale_of;
 use entries::entry::Entry;
+use entries::header::Header;
+use entries::header::JobKind;
 use jobs::check::Check;
 use jobs::check::CheckJob;
 use jobs::span::Span;
 use jobs::span::SpanJob;
 use record::head::put_head;
-use record::header::Header;
-use record::header::JobKind;
 use text::put::put_bytes;
 use text::put::put_number;
 use text::sink::Sink;

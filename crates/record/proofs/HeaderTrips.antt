@@ -13,9 +13,9 @@ use Rattle.text.specs.Written.{word-pair, number-pair}
 use Rattle.text.proofs.Trips.{ok-inj, then-on, then-at, gap-complete}
 use Rattle.text.proofs.PairTrips.{number-sound, number-complete, word-sound, word-complete, last-word-sound, last-word-complete}
 use Rattle.record.specs.Header.{header-text, header-ok, read-header}
-use Rattle.record.specs.WordLaws.{register-laws, job-laws}
-use Rattle.record.specs.Words.{register-text, register-of, job-text, job-of}
-use Rattle.record.specs.declared.header.Header.{Header}
+use Rattle.entries.specs.HeaderWordLaws.{register-laws, job-laws}
+use Rattle.entries.specs.HeaderWords.{register-text, register-of, job-text, job-of}
+use Rattle.entries.specs.declared.header.Header.{Header}
 
 -- what a header in its ranges has
 pub record Ranged (h : Header) : Type 0 where

@@ -20,7 +20,7 @@ use Rattle.text.proofs.PairTrips.{number-sound, number-complete, last-sound, la
 use Rattle.entries.specs.Calls.{call-text, call-of}
 use Rattle.entries.specs.CallLaws.{call-laws}
 use Rattle.entries.specs.declared.entry.Entry.{Entry}
-use Rattle.record.specs.declared.header.Header.{Header}
+use Rattle.entries.specs.declared.header.Header.{Header}
 use Rattle.record.specs.Lines.{shown, shows, task-end, job-pairs, entry-text, entries-text, as-shown}
 use Rattle.record.specs.Read.{read-job, read-shown, read-entry, read-entries, with-first, after-line}
 use Rattle.record.specs.Write.{in-range, is-job, all-of}

@@ -25,11 +25,11 @@ use Rattle.record.specs.Header.{header-text, header-ok, read-header}
 use Rattle.record.specs.Lines.{entries-text, as-shown}
 use Rattle.record.specs.Read.{read-entries, with-header, after-header, if-whole, read-page, read-answer, list-of-page}
 use Rattle.record.specs.Trip.{Makes, Takes-what-is-written, Makes-what-is-read}
-use Rattle.record.specs.Words.{job-kind}
+use Rattle.entries.specs.HeaderWords.{job-kind}
 use Rattle.record.specs.Write.{in-range, is-job, all-of, fitted, page-text, write-jobs, write-page, text-size, buffer-after}
-use Rattle.record.specs.declared.header.Header.{Header}
-use Rattle.record.specs.declared.header.JobKind.{JobKind}
-use Rattle.record.specs.declared.header.JobKind.the-variants.{Check, Span}
+use Rattle.entries.specs.declared.header.Header.{Header}
+use Rattle.entries.specs.declared.header.JobKind.{JobKind}
+use Rattle.entries.specs.declared.header.JobKind.the-variants.{Check, Span}
 use Rattle.record.specs.declared.refusal.WriteRefusal.{WriteRefusal}
 use Rattle.record.proofs.HeaderTrips.{ranged, header-sound, header-complete}
 use Rattle.record.proofs.LineTrips.{lines-sound, lines-complete}

@@ -10,7 +10,7 @@ use Rattle.std.proofs.shelf.Tests.{cond-true, cond-false, and-from, and-left, a
 use Rattle.std.specs.declared.result.Result.the-variants.{Ok, Err}
 use Rattle.jobs.specs.JobType.{Kind}
 use Rattle.entries.specs.declared.entry.Entry.{Entry}
-use Rattle.record.specs.declared.header.Header.{Header}
+use Rattle.entries.specs.declared.header.Header.{Header}
 use Rattle.record.specs.declared.refusal.WriteRefusal.the-variants.{OutOfRange, JobRefused, PageTooLong, BufferTooShort}
 use Rattle.record.specs.Header.{header-text, header-ok}
 use Rattle.record.specs.Lines.{entries-text}

@@ -9,8 +9,8 @@ use Rattle.text.specs.Whole.{whole, placed}
 use Rattle.text.specs.declared.fault.Fault.{Fault}
 use Rattle.text.proofs.Trips.{ok-inj, err-ok}
 use Rattle.entries.specs.declared.entry.Entry.{Entry}
-use Rattle.record.specs.declared.header.Header.{Header}
-use Rattle.record.specs.Words.{job-kind}
+use Rattle.entries.specs.declared.header.Header.{Header}
+use Rattle.entries.specs.HeaderWords.{job-kind}
 use Rattle.record.specs.Header.{read-header}
 use Rattle.record.specs.Read.{read-entries, size-of, list-after, with-header, after-header, if-whole, read-page, counted-page, read-answer, list-of-page}
 

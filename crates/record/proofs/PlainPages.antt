@@ -20,10 +20,10 @@ use Rattle.entries.specs.CallLaws.{call-laws}
 use Rattle.entries.specs.declared.entry.Entry.{Entry}
 use Rattle.record.specs.Header.{header-text, header-ok}
 use Rattle.record.specs.Lines.{shows, task-end, job-pairs, entry-text, entries-text}
-use Rattle.record.specs.WordLaws.{register-laws, job-laws}
-use Rattle.record.specs.Words.{register-text, job-text}
+use Rattle.entries.specs.HeaderWordLaws.{register-laws, job-laws}
+use Rattle.entries.specs.HeaderWords.{register-text, job-text}
 use Rattle.record.specs.Write.{in-range, is-job, all-of, page-text}
-use Rattle.record.specs.declared.header.Header.{Header}
+use Rattle.entries.specs.declared.header.Header.{Header}
 use Rattle.record.proofs.HeaderTrips.{ranged}
 
 letters-plain : (w : List ℕ) → letters w ≡ true → plain-text w ≡ true

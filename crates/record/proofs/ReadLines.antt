@@ -12,7 +12,7 @@ use Rattle.text.specs.declared.fault.Fault.{Fault}
 use Rattle.text.specs.declared.fault.Refusal.the-variants.{ListFull}
 use Rattle.text.proofs.Trips.{ok-inj, err-ok}
 use Rattle.entries.specs.declared.entry.Entry.{Entry}
-use Rattle.record.specs.declared.header.Header.{Header}
+use Rattle.entries.specs.declared.header.Header.{Header}
 use Rattle.record.specs.Read.{read-entry, read-entries, after-line, with-first, size-of}
 
 -- entries that were read before the others

@@ -8,8 +8,8 @@ use Rattle.std.specs.declared.result.Result.the-variants.{Ok}
 use Rattle.text.specs.Figures.{within}
 use Rattle.text.specs.Pairs.{Step, then, pair, gap, field, never}
 use Rattle.text.specs.Written.{word-pair, number-pair}
-use Rattle.record.specs.Words.{register-text, register-of, job-text, job-of}
-use Rattle.record.specs.declared.header.Header.{Header}
+use Rattle.entries.specs.HeaderWords.{register-text, register-of, job-text, job-of}
+use Rattle.entries.specs.declared.header.Header.{Header}
 
 unfoldable pub header-text : Header → List ℕ
 header-text h =

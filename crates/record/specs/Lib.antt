@@ -1,5 +1,3 @@
-pub mod Words
-pub mod WordLaws
 pub mod Header
 pub mod Lines
 pub mod Write

@@ -16,8 +16,8 @@ use Rattle.text.specs.declared.fault.PlacedFault.{PlacedFault}
 use Rattle.text.specs.declared.fault.Refusal.the-variants.{JobRefused, ListFull}
 use Rattle.entries.specs.Calls.{call-of}
 use Rattle.entries.specs.declared.entry.Entry.{Entry}
-use Rattle.record.specs.declared.header.Header.{Header}
-use Rattle.record.specs.Words.{job-kind}
+use Rattle.entries.specs.declared.header.Header.{Header}
+use Rattle.entries.specs.HeaderWords.{job-kind}
 use Rattle.record.specs.Header.{read-header}
 use Rattle.record.specs.Lines.{shown}
 

@@ -10,7 +10,7 @@ use Rattle.entries.specs.declared.entry.Entry.{Entry}
 use Rattle.record.specs.Lines.{as-shown}
 use Rattle.record.specs.Read.{read-page}
 use Rattle.record.specs.Write.{write-page}
-use Rattle.record.specs.declared.header.Header.{Header}
+use Rattle.entries.specs.declared.header.Header.{Header}
 use Rattle.record.specs.declared.refusal.WriteRefusal.{WriteRefusal}
 
 -- the writer, given room for the text, makes it of this header and these entries

@@ -9,10 +9,10 @@ use Rattle.std.specs.declared.result.Result.the-variants.{Ok, Err}
 use Rattle.jobs.specs.JobType.{Kind}
 use Rattle.text.specs.Written.{written}
 use Rattle.entries.specs.declared.entry.Entry.{Entry}
-use Rattle.record.specs.declared.header.Header.{Header}
+use Rattle.entries.specs.declared.header.Header.{Header}
 use Rattle.record.specs.declared.refusal.WriteRefusal.{WriteRefusal}
 use Rattle.record.specs.declared.refusal.WriteRefusal.the-variants.{OutOfRange, JobRefused, PageTooLong, BufferTooShort}
-use Rattle.record.specs.Words.{job-kind}
+use Rattle.entries.specs.HeaderWords.{job-kind}
 use Rattle.record.specs.Header.{header-text, header-ok}
 use Rattle.record.specs.Lines.{shows, entries-text}
 

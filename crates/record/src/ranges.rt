@@ -4,9 +4,9 @@ ghost use Prim.Native.Nat.{_≤_};
 ghost use Rattle.jobs.specs.JobType.{kind};
 ghost use Rattle.record.specs.Header.{header-ok};
 ghost use Rattle.record.specs.Write.{in-range, is-job, all-of};
-use crate::header::Header;
 use crate::lines::shows_job;
 use entries::entry::Entry;
+use entries::header::Header;
 use jobs::job::Job;
 
 pub(crate) fn header_in_range(h: &Header) -> bool

@@ -2,16 +2,16 @@
 use entries::entry::Call;
 use entries::entry::Entry;
 use entries::entry::EntryPartialEq;
-use record::header::Header;
-use record::header::JobKind;
-use record::header::Register;
+use entries::header::Header;
+use entries::header::JobKind;
+use entries::header::Register;
 use record::read::read_page;
 use text::ends::BufferSink;
 use text::put::put_bytes;
 use text::sink::Buffer;
 
 // What stands in a list before it is lent.
-pub fn junk() -> Entry {
+pub(crate) fn junk() -> Entry {
     Entry {
         processor: 9,
         call: Call::Steal,
@@ -24,7 +24,7 @@ pub fn junk() -> Entry {
     }
 }
 
-pub fn entry(
+pub(crate) fn entry(
     processor: u32,
     call: Call,
     stamps: (u32, u32, u32),
@@ -45,7 +45,7 @@ pub fn entry(
     }
 }
 
-pub fn small_header(job: JobKind) -> Header {
+pub(crate) fn small_header(job: JobKind) -> Header {
     Header {
         register: Register::Word,
         places: 4,
@@ -56,12 +56,12 @@ pub fn small_header(job: JobKind) -> Header {
 
 // What comes of reading a page into a list of four: the refusal's number, line and byte, or 0 and the
 // number of entries; 99 where a refusal left the list otherwise than it was.
-pub fn outcome(page: &[u8]) -> (u32, usize, usize) {
+pub(crate) fn outcome(page: &[u8]) -> (u32, usize, usize) {
     outcome_in(page, 4)
 }
 
 // The same with a list of so many, four at most.
-pub fn outcome_in(page: &[u8], room: usize) -> (u32, usize, usize) {
+pub(crate) fn outcome_in(page: &[u8], room: usize) -> (u32, usize, usize) {
     let mut list = [junk(); 4];
     match read_page(page, &mut list[0..room.min(4)]) {
         Ok((_, n)) => (0, n as usize, 0),
@@ -76,12 +76,12 @@ pub fn outcome_in(page: &[u8], room: usize) -> (u32, usize, usize) {
 }
 
 // What comes of a page of checks with these lines.
-pub fn of_checks(lines: &[u8]) -> (u32, usize, usize) {
+pub(crate) fn of_checks(lines: &[u8]) -> (u32, usize, usize) {
     joined(b"register=word places=4 processors=2 job=check\n", lines)
 }
 
 // What comes of a page of spans with these lines.
-pub fn of_spans(lines: &[u8]) -> (u32, usize, usize) {
+pub(crate) fn of_spans(lines: &[u8]) -> (u32, usize, usize) {
     joined(b"register=tree places=4 processors=2 job=span\n", lines)
 }
 

@@ -20,7 +20,7 @@ pub enum Refusal {
 }
 
 // Which part of a page a refusal speaks of.
-#[derive(Clone, Copy, PartialEq, Eq, Debug)]
+#[derive(Clone, Copy)]
 pub enum Layer {
     Text,
     Field,
@@ -28,7 +28,7 @@ pub enum Layer {
 }
 
 // A refusal, and how many bytes of the text are left where it lies.
-#[derive(Clone, Copy, PartialEq, Eq, Debug)]
+#[derive(Clone, Copy)]
 pub struct Fault {
     pub refusal: Refusal,
     pub left: usize,

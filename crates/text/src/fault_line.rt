@@ -25,7 +25,7 @@ impl Refusal {
         }
     }
 
-    pub fn layer(self) -> Layer
+    fn layer(self) -> Layer
         ensures { λ r. ⌜ r ≡ layer-of self ⌝ }
     {
         match self {
@@ -37,7 +37,7 @@ impl Refusal {
 }
 
 impl Layer {
-    pub fn word(self) -> &'static [u8]
+    fn word(self) -> &'static [u8]
         ensures { λ r. ⌜ now r ≡ layer-text self ⌝ }
     {
         match self {

@@ -29,7 +29,7 @@ fn read_number(word: &[u8], most: u32) -> Option<u32>
 }
 
 // The number that all of `word` writes, from `low` to `most`.
-pub fn read_within(word: &[u8], low: u32, most: u32) -> Option<u32>
+pub(crate) fn read_within(word: &[u8], low: u32, most: u32) -> Option<u32>
     ensures { λ r. ⌜ Reads-number low most (now (word .entry)) r ⌝ }
 {
     match read_number(word, most) {

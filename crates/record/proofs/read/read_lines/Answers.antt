@@ -3,8 +3,8 @@ use native.Mathlib.Omega.{arith}
 use lib.ListN.{length}
 use Rattle.jobs.specs.JobType.{Kind}
 use Rattle.record.specs.Read.{read-entries, size-of, list-after}
-use Rattle.record.specs.Words.{job-kind}
-use Rattle.record.specs.declared.header.JobKind.the-variants.{Check, Span}
+use Rattle.entries.specs.HeaderWords.{job-kind}
+use Rattle.entries.specs.declared.header.JobKind.the-variants.{Check, Span}
 use Rattle.record.proofs.HeaderTrips.{ranged}
 use Rattle.record.proofs.LineTrips.{room-min}
 use Rattle.record.proofs.PageTrips.{job-lawful}

@@ -4,7 +4,7 @@ use lib.ListN.{length}
 use Rattle.std.proofs.shelf.Results.{err-from-errBy}
 use Rattle.std.specs.declared.result.Result.the-variants.{Err}
 use Rattle.record.specs.Read.{read-entries, read-page, counted-page, list-of-page}
-use Rattle.record.specs.Words.{job-kind}
+use Rattle.entries.specs.HeaderWords.{job-kind}
 use Rattle.record.proofs.PageTrips.{rest-short}
 use Rattle.record.proofs.Paged.{page-is, counted-ok, counted-err, list-with}
 use Rattle.record.proofs.read.read_parts.Needs as need

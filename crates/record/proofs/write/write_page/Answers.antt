@@ -1,6 +1,6 @@
 use mathlib.Core.Path.{sym, ap, _∙_}
 use lib.ListN.{length}
-use Rattle.record.specs.Words.{job-kind}
+use Rattle.entries.specs.HeaderWords.{job-kind}
 use Rattle.record.specs.Write.{write-jobs, text-size, buffer-after}
 use Rattle.record.proofs.PageTrips.{makes-read}
 use Rattle.record.proofs.write.write_page.Needs as need

@@ -8,11 +8,11 @@ use Rattle.std.specs.declared.option.Option.the-variants.{Some}
 use Rattle.text.specs.Bytes.{plain-text}
 use Rattle.text.specs.Pairs.{Spells, word}
 use Rattle.text.proofs.ClosedWords.{one-word, no-word}
-use Rattle.record.specs.declared.header.JobKind.{JobKind}
-use Rattle.record.specs.declared.header.JobKind.the-variants.{Check, Span}
-use Rattle.record.specs.declared.header.Register.{Register}
-use Rattle.record.specs.declared.header.Register.the-variants.{Word, Tree, Range}
-use Rattle.record.specs.Words.{register-text, register-of, job-text, job-of}
+use Rattle.entries.specs.declared.header.JobKind.{JobKind}
+use Rattle.entries.specs.declared.header.JobKind.the-variants.{Check, Span}
+use Rattle.entries.specs.declared.header.Register.{Register}
+use Rattle.entries.specs.declared.header.Register.the-variants.{Word, Tree, Range}
+use Rattle.entries.specs.HeaderWords.{register-text, register-of, job-text, job-of}
 
 register-there : (x : Register) → register-of (register-text x) ≡ Some x
 register-there Word = refl

@@ -9,10 +9,10 @@ use Rattle.std.specs.declared.option.Option.the-variants.{Some, None}
 use Rattle.jobs.specs.JobType.{Kind, kind}
 use Rattle.jobs.specs.Check.{check-names, check-of}
 use Rattle.jobs.specs.Span.{span-names, span-of}
-use Rattle.record.specs.declared.header.JobKind.{JobKind}
-use Rattle.record.specs.declared.header.JobKind.the-variants.{Check, Span}
-use Rattle.record.specs.declared.header.Register.{Register}
-use Rattle.record.specs.declared.header.Register.the-variants.{Word, Tree, Range}
+use Rattle.entries.specs.declared.header.JobKind.{JobKind}
+use Rattle.entries.specs.declared.header.JobKind.the-variants.{Check, Span}
+use Rattle.entries.specs.declared.header.Register.{Register}
+use Rattle.entries.specs.declared.header.Register.the-variants.{Word, Tree, Range}
 
 abbrev pub register-text : Register → List ℕ
 register-text Word = codes "word"
