@@ -18,7 +18,7 @@ use text::sink::Sink;
 // What the reader answered, and the list that it left.
 fn put_answer<S: Sink<u8>>(
     s: &mut S,
-    answer: &Result<(Header, u32), PlacedFault>,
+    answer: &Result<(Header, usize), PlacedFault>,
     list: &[Entry],
     width: usize,
 )
@@ -26,7 +26,7 @@ fn put_answer<S: Sink<u8>>(
 {
     match answer {
         Ok((header, n)) => {
-            let count = (*n as usize).min(list.len());
+            let count = (*n).min(list.len());
             put_timeline(s, header, &list[0..count], width);
         }
         Err(fault) => put_fault(s, fault),

@@ -35,7 +35,7 @@ fn read_lines(lines: &[u8], h: &Header, list: &mut [Entry]) -> Result<u32, Fault
     }
 }
 
-fn read_parts(text: &[u8], list: &mut [Entry]) -> Result<(Header, u32), Fault>
+fn read_parts(text: &[u8], list: &mut [Entry]) -> Result<(Header, usize), Fault>
     ensures value { λ o. ⌜ o ≡ counted-page (read-page (length (now (list .entry))) (now (text .entry))) ⌝ }
     ensures filled { λ _. ⌜ now (list .exit) ≡ list-of-page (read-page (length (now (list .entry))) (now (text .entry))) (now (list .entry)) ⌝ }
 {
@@ -43,12 +43,12 @@ fn read_parts(text: &[u8], list: &mut [Entry]) -> Result<(Header, u32), Fault>
     let mut r = Reader { rest: text };
     let header = read_head(&mut r)?;
     let n = read_lines(r.rest, &header, list)?;
-    Ok((header, n))
+    Ok((header, n as usize))
 }
 
 // The header of a record and how many entries it has, which stand from the start of the list;
 // or why and where the text is refused, and then the list is as it was.
-pub fn read_page(text: &[u8], list: &mut [Entry]) -> Result<(Header, u32), PlacedFault>
+pub fn read_page(text: &[u8], list: &mut [Entry]) -> Result<(Header, usize), PlacedFault>
     ensures value { λ r. ⌜ r ≡ read-answer (now (text .entry)) (read-page (length (now (list .entry))) (now (text .entry))) ⌝ }
     ensures filled { λ _. ⌜ now (list .exit) ≡ list-of-page (read-page (length (now (list .entry))) (now (text .entry))) (now (list .entry)) ⌝ }
     ensures trip { λ r. ⌜ Takes-what-is-written (now (text .entry)) (length (now (list .entry))) r (now (list .exit)) ⌝ }

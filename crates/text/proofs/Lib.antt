@@ -7,3 +7,4 @@ pub mod ClosedWords
 pub mod PairTrips
 pub mod PlainPairs
 pub mod ReaderLaws
+pub mod Places

@@ -1,6 +1,7 @@
 -- What is asked of a whole text, and where a byte of it lies.
-use mathlib.Core.Bool.{Bool, true, false, cond, _&&_, _||_}
-use mathlib.Core.List.{List, [], _∷_}
+use mathlib.Core.Path.{_≡_}
+use mathlib.Core.Bool.{Bool, true, cond}
+use mathlib.Core.List.{List, [], _∷_, _++_}
 use Prim.Native.Nat.{ℕ, _+_, _-_}
 use lib.Dec.{eqb, leb}
 use lib.ListN.{length, take}
@@ -38,3 +39,13 @@ after-bytes line byte (c ∷ cs) = cond (eqb c 10) (after-bytes (line + 1) 1 cs)
 -- a fault with the line and the byte, from 1, where it lies
 unfoldable pub placed : List ℕ → Fault → PlacedFault
 placed s f = let at = after-bytes 1 1 (take (length s - f .left) s) in record { refusal = f .refusal; line = at .0; byte = at .1 }
+
+abbrev pub newlines : List ℕ → ℕ
+newlines [] = 0
+newlines (c ∷ cs) = cond (eqb c 10) 1 0 + newlines cs
+
+-- a line and a byte, both from 1, that come after these bytes: the newlines say which line, and the bytes of the
+-- unfinished line which byte
+pub record Comes-after (front : List ℕ) (line byte : ℕ) : Type 0 where
+  pub line-counts : line ≡ newlines front + 1
+  pub byte-counts : (lines rest : List ℕ) → front ≡ lines ++ rest → ended lines ≡ true → newlines rest ≡ 0 → byte ≡ length rest + 1

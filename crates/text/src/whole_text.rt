@@ -1,9 +1,10 @@
 // What is asked of a whole text, and where a fault lies in it.
 ghost use mathlib.Core.Path.{_≡_};
-ghost use lib.ListN.{length};
+ghost use Prim.Native.Nat.{_-_};
+ghost use lib.ListN.{length, take};
 ghost use Rattle.text.specs.Bytes.{plain-byte};
 ghost use Rattle.text.specs.Exact.{Passes-whole};
-ghost use Rattle.text.specs.Whole.{ended, from-bad, after-bytes, placed};
+ghost use Rattle.text.specs.Whole.{ended, from-bad, after-bytes, placed, Comes-after};
 use crate::fault::Fault;
 use crate::fault::PlacedFault;
 use crate::fault::Refusal;
@@ -79,7 +80,8 @@ fn locate(front: &[u8]) -> (usize, usize)
 
 // The fault with its line and byte.
 pub fn place_of(text: &[u8], f: Fault) -> PlacedFault
-    ensures { λ r. ⌜ r ≡ placed (now (text .entry)) f ⌝ }
+    ensures value { λ r. ⌜ r ≡ placed (now (text .entry)) f ⌝ }
+    ensures counts { λ r. ⌜ Comes-after (take (length (now (text .entry)) - f .left) (now (text .entry))) (r .line) (r .byte) ⌝ }
 {
     let at = text.len().saturating_sub(f.left);
     let (line, byte) = locate(&text[0..at]);

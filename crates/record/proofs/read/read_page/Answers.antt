@@ -13,5 +13,5 @@ returns-in-Ok c =
 pub returns-in-Err : need.returns-in-Err
 returns-in-Err c =
     let told = c .in-Err .ensures tt in
-    let value = ap Err (c .place-of .ensures) ∙ answer-err (c .args .text .now) _ _ (told .value) in
+    let value = ap Err (c .place-of .ensures .value) ∙ answer-err (c .args .text .now) _ _ (told .value) in
     record { value = value; filled = told .filled; trip = takes-written (c .args .text .now) (c .args .list .now) _ _ value (told .filled) }

@@ -1,10 +1,11 @@
-// Examples of the record page: whole pages of both job types, and every refusal at its edge.
+// Examples of the record page and its report: whole pages of both job types, and every refusal at its edge.
 use entries::entry::Call;
 use entries::entry::Entry;
 use entries::entry::EntryPartialEq;
 use entries::header::Header;
 use entries::header::JobKind;
 use entries::header::Register;
+use lanes::report::report;
 use record::read::read_page;
 use text::ends::BufferSink;
 use text::put::put_bytes;
@@ -64,7 +65,7 @@ pub(crate) fn outcome(page: &[u8]) -> (u32, usize, usize) {
 pub(crate) fn outcome_in(page: &[u8], room: usize) -> (u32, usize, usize) {
     let mut list = [junk(); 4];
     match read_page(page, &mut list[0..room.min(4)]) {
-        Ok((_, n)) => (0, n as usize, 0),
+        Ok((_, n)) => (0, n, 0),
         Err(f) => {
             if list == [junk(); 4] {
                 (f.refusal.number(), f.line, f.byte)
@@ -97,9 +98,21 @@ fn joined(header: &[u8], lines: &[u8]) -> (u32, usize, usize) {
     outcome(&page[0..n])
 }
 
+// Whether this is the report of a page on a terminal of this width.
+pub(crate) fn reports(page: &[u8], width: usize, want: &[u8]) -> bool {
+    let mut list = [junk(); 4];
+    let mut out = [7u8; 512];
+    match report(page, &mut list, width, &mut out) {
+        Ok(n) => &out[0..n.min(512)] == want,
+        Err(_) => false,
+    }
+}
+
 #[cfg(test)]
 mod pages;
 #[cfg(test)]
 mod read_faults;
+#[cfg(test)]
+mod timelines;
 #[cfg(test)]
 mod write_faults;
