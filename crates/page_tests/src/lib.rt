@@ -98,11 +98,26 @@ fn joined(header: &[u8], lines: &[u8]) -> (u32, usize, usize) {
     outcome(&page[0..n])
 }
 
+// The report of a page on a terminal of this width, from the start of the buffer: its length, or the length that the
+// buffer should have; 0 where too short a buffer did not stay as it was.
+pub(crate) fn report_size(
+    page: &[u8],
+    room: usize,
+    width: usize,
+    out: &mut [u8; 512],
+) -> Result<usize, usize> {
+    let mut list = [junk(); 4];
+    let before = *out;
+    match report(page, &mut list, width, &mut out[0..room.min(512)]) {
+        Ok(n) => Ok(n),
+        Err(n) => Err(if *out == before { n } else { 0 }),
+    }
+}
+
 // Whether this is the report of a page on a terminal of this width.
 pub(crate) fn reports(page: &[u8], width: usize, want: &[u8]) -> bool {
-    let mut list = [junk(); 4];
     let mut out = [7u8; 512];
-    match report(page, &mut list, width, &mut out) {
+    match report_size(page, 512, width, &mut out) {
         Ok(n) => &out[0..n.min(512)] == want,
         Err(_) => false,
     }

@@ -1,8 +1,6 @@
 // Reports of pages, each as the rules of the timeline have it.
-use crate::junk;
+use crate::report_size;
 use crate::reports;
-use entries::entry::EntryPartialEq;
-use lanes::report::report;
 use std::test::*;
 
 // Forty stamps on a terminal of the least width, where a column stands for four of them.
@@ -39,24 +37,8 @@ fn fault_lines() -> Result<(), Fail> {
 // The report of an empty text has 34 bytes.
 #[test]
 fn buffer_too_short() -> Result<(), Fail> {
-    let mut list = [junk(); 2];
-    let mut out = [7u8; 34];
-    check_eq(report(b"", &mut list, 80, &mut out[0..33]), Err(34))?;
-    check(out == [7u8; 34])?;
-    check_eq(report(b"", &mut list, 80, &mut out), Ok(34))?;
-    check(list == [junk(); 2])
-}
-
-// A page of two lines and a list of one: 27.
-#[test]
-fn full_list() -> Result<(), Fail> {
-    let page =
-        b"register=word places=4 processors=2 job=check\nop=1 proc=0 call=take from=0 mark=0 to=0 task=0\nop=2 proc=1 call=steal from=0 mark=0 to=0 task=0\n";
-    let mut list = [junk(); 1];
-    let mut out = [7u8; 64];
-    check_eq(report(page, &mut list, 80, &mut out), Ok(34))?;
-    check_eq(
-        &out[0..34],
-        b"fault=27 line=3 byte=1 layer=pool\n".as_slice(),
-    )
+    let mut out = [7u8; 512];
+    check_eq(report_size(b"", 33, 80, &mut out), Err(34))?;
+    check_eq(report_size(b"", 34, 80, &mut out), Ok(34))?;
+    check_eq(out[34], 7)
 }
