@@ -10,7 +10,8 @@ use Rattle.std.proofs.shelf.Tests.{le-leb, leb-true, and-from, and-parts}
 use Rattle.std.specs.declared.result.Result.the-variants.{Ok}
 use Rattle.text.specs.Pairs.{then}
 use Rattle.text.specs.Written.{word-pair, number-pair}
-use Rattle.text.proofs.Trips.{ok-inj, then-on, then-at, gap-complete}
+use Rattle.text.proofs.Answered.{ok-inj}
+use Rattle.text.proofs.Trips.{then-on, then-at, gap-complete}
 use Rattle.text.proofs.PairTrips.{number-sound, number-complete, word-sound, word-complete, last-word-sound, last-word-complete}
 use Rattle.record.specs.Header.{header-text, header-ok, read-header}
 use Rattle.entries.specs.HeaderWordLaws.{register-laws, job-laws}

@@ -15,7 +15,8 @@ use Rattle.text.specs.Figures.{within}
 use Rattle.text.specs.Pairs.{fault, then, pair, gap, ender}
 use Rattle.text.specs.Written.{word-pair, number-pair}
 use Rattle.text.specs.declared.fault.Refusal.the-variants.{ListFull}
-use Rattle.text.proofs.Trips.{ok-inj, err-ok, then-ok, then-on, then-at, gap-complete}
+use Rattle.text.proofs.Answered.{ok-inj, err-ok}
+use Rattle.text.proofs.Trips.{then-ok, then-on, then-at, gap-complete}
 use Rattle.text.proofs.PairTrips.{number-sound, number-complete, last-sound, last-complete, word-sound, word-complete}
 use Rattle.entries.specs.Calls.{call-text, call-of}
 use Rattle.entries.specs.CallLaws.{call-laws}

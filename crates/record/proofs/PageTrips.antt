@@ -1,6 +1,6 @@
 -- The pages that are written are the texts that are read.
 use mathlib.Core.Path.{_≡_, refl, sym, ap, subst, _∙_}
-use mathlib.Core.Bool.{Bool, true, false, cond, _&&_}
+use mathlib.Core.Bool.{true, _&&_}
 use mathlib.Core.List.{List, _++_, map}
 use Prim.Native.Nat.{ℕ, _+_, _^_, _≤_, _<_}
 use native.Mathlib.Omega.{arith}
@@ -19,7 +19,7 @@ use Rattle.text.specs.Written.{written}
 use Rattle.text.specs.WrittenLaws.{take-front}
 use Rattle.text.specs.declared.fault.Fault.{Fault}
 use Rattle.text.specs.declared.fault.PlacedFault.{PlacedFault}
-use Rattle.text.proofs.Trips.{ok-inj, err-ok}
+use Rattle.text.proofs.Answered.{ok-inj, err-ok, cond-ok}
 use Rattle.entries.specs.declared.entry.Entry.{Entry}
 use Rattle.record.specs.Header.{header-text, header-ok, read-header}
 use Rattle.record.specs.Lines.{entries-text, as-shown}
@@ -61,16 +61,6 @@ after-header-on (Err f) k y e on = absurd (err-ok e)
 with-header-on : {P : Type 0} (h : Header) (r : Result (List Entry) Fault) (y : Header × List Entry) → with-header h r ≡ Ok y → ((es : List Entry) → r ≡ Ok es → (h, es) ≡ y → P) → P
 with-header-on h (Ok es) y e on = on es refl (ok-inj e)
 with-header-on h (Err f) y e on = absurd (err-ok e)
-
-cond-ok : {X E : Type 0} (b : Bool) (r : Result X E) (f : E) (y : X) → cond b r (Err f) ≡ Ok y → (b ≡ true) × (r ≡ Ok y)
-cond-ok true r f y e = (refl, e)
-cond-ok false r f y e = let z : _≡_ {A = ℕ} 0 1 = cc in absurd (omega arith)
-
-ok-same : {X E : Type 0} {x y : X} → _≡_ {A = Result X E} (Ok x) (Ok y) → x ≡ y
-ok-same e = cc
-
-err-never : {X E : Type 0} {f : E} {y : X} → _≡_ {A = Result X E} (Err f) (Ok y) → ⊥
-err-never e = let z : _≡_ {A = ℕ} 0 1 = cc in omega arith
 
 whole-short : (s : List ℕ) → whole 32768 s ≡ Ok tt → length s ≤ 32768
 unfolding whole
@@ -115,7 +105,7 @@ page-written room h es t e =
     let b = cond-ok (all-of (is-job kind) es) _ _ t (a .1) in
     let c = cond-ok (leb (length (page-text kind h es)) 32768) _ _ t (b .1) in
     let d = cond-ok (leb (length (page-text kind h es)) room) _ _ t (c .1) in
-    let same = ok-same (d .1) in
+    let same = ok-inj (d .1) in
     (record { text = sym same; header = z .0; fields = z .1; jobs = b .0; short = subst (λ l. length l ≤ 32768) same (leb-true _ _ (c .0)) }, subst (λ l. length l ≤ room) same (leb-true _ _ (d .0)))
 
 page-again : (room : ℕ) (t : List ℕ) (h : Header) (es : List Entry) → Is-page t h es → length t ≤ room → write-page room h es ≡ Ok t
@@ -124,13 +114,13 @@ page-again room t h es p fits =
 
 answer-ok : (s : List ℕ) (r : Result (Header × List Entry) Fault) (h : Header) (n : ℕ) → read-answer s r ≡ Ok (h, n) → (es : List Entry) × (r ≡ Ok (h, es)) × (n ≡ length es)
 answer-ok s (Ok p) h n e =
-    let same = ok-same e in
+    let same = ok-inj e in
     (p .1, ap (λ x. Ok (x .0, p .1)) same, sym (ap (λ x. x .1) same))
-answer-ok s (Err f) h n e = absurd (err-never e)
+answer-ok s (Err f) h n e = absurd (err-ok e)
 
 size-ok : (r : Result (List ℕ) WriteRefusal) (n : ℕ) → text-size r ≡ Ok n → (t : List ℕ) × (r ≡ Ok t) × (n ≡ length t)
-size-ok (Ok t) n e = (t, refl, sym (ok-same e))
-size-ok (Err f) n e = absurd (err-never e)
+size-ok (Ok t) n e = (t, refl, sym (ok-inj e))
+size-ok (Err f) n e = absurd (err-ok e)
 
 takes-what-is-written : (text : List ℕ) (list : List Entry) → Takes-what-is-written text (length list) (read-answer text (read-page (length list) text)) (list-of-page (read-page (length list) text) list)
 takes-what-is-written text list = record {

@@ -7,7 +7,7 @@ use Rattle.std.specs.declared.result.Result.{Result}
 use Rattle.std.specs.declared.result.Result.the-variants.{Ok, Err}
 use Rattle.text.specs.Whole.{whole, placed}
 use Rattle.text.specs.declared.fault.Fault.{Fault}
-use Rattle.text.proofs.Trips.{ok-inj, err-ok}
+use Rattle.text.proofs.Answered.{ok-inj, err-ok}
 use Rattle.entries.specs.declared.entry.Entry.{Entry}
 use Rattle.entries.specs.declared.header.Header.{Header}
 use Rattle.entries.specs.HeaderWords.{job-kind}

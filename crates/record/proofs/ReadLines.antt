@@ -10,7 +10,7 @@ use Rattle.jobs.specs.JobType.{Kind}
 use Rattle.text.specs.Pairs.{Step, fault}
 use Rattle.text.specs.declared.fault.Fault.{Fault}
 use Rattle.text.specs.declared.fault.Refusal.the-variants.{ListFull}
-use Rattle.text.proofs.Trips.{ok-inj, err-ok}
+use Rattle.text.proofs.Answered.{ok-inj, err-ok}
 use Rattle.entries.specs.declared.entry.Entry.{Entry}
 use Rattle.entries.specs.declared.header.Header.{Header}
 use Rattle.record.specs.Read.{read-entry, read-entries, after-line, with-first, size-of}

@@ -9,7 +9,7 @@ use Rattle.std.proofs.shelf.Tests.{cond-true, cond-false, cases-bool}
 use Rattle.std.specs.shelf.Text.{sameBytes}
 use Rattle.std.specs.declared.option.Option.{Option}
 use Rattle.std.specs.declared.option.Option.the-variants.{Some, None}
-use Rattle.text.proofs.Trips.{some-inj, none-some}
+use Rattle.text.proofs.Answered.{some-inj, none-some}
 
 -- one word of the list, and then the others
 pub one-word : {W : Type 0} (w text : List ℕ) (v x : W) (o : Option W) (P : W → List ℕ) → P v ≡ text → (o ≡ Some x → w ≡ P x) → cond (sameBytes w text) (Some v) o ≡ Some x → w ≡ P x

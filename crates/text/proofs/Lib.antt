@@ -1,3 +1,4 @@
+pub mod Answered
 pub mod Readings
 pub mod Numbers
 pub mod Words

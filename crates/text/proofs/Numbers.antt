@@ -16,6 +16,7 @@ use Rattle.std.specs.Written.{decimal}
 use Rattle.std.specs.declared.option.Option.{Option}
 use Rattle.std.specs.declared.option.Option.the-variants.{Some, None}
 use Rattle.text.specs.Figures.{figures, number, alone}
+use Rattle.text.proofs.Answered.{cond-some}
 
 abbrev pub readOn : ℕ → List ℕ → ℕ
 readOn n [] = n
@@ -23,10 +24,6 @@ readOn n (c ∷ cs) = readOn (n * 10 + (c - 48)) cs
 
 pub own : Numerals (λ ds. allDigits ds ≡ true) (readOn 0)
 own = numerals-by-fold _ (search needs) readOn (search needs)
-
-pub cond-some : {A : Type 0} (b : Bool) (o : Option A) (y : A) → cond b o None ≡ Some y → (b ≡ true) × (o ≡ Some y)
-cond-some true o y e = (refl, e)
-cond-some false o y e = let z : _≡_ {A = ℕ} 0 1 = cc in absurd (omega arith)
 
 readOn-ge : (n : ℕ) (bs : List ℕ) → n ≤ readOn n bs
 readOn-ge n [] = omega arith

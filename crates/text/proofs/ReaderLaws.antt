@@ -1,6 +1,6 @@
 -- Each reader takes exactly what is written, if it gives the value of its definition.
 use mathlib.Core.Path.{_≡_, refl, sym, ap, _∙_}
-use mathlib.Core.Bool.{Bool, true, false, cond}
+use mathlib.Core.Bool.{Bool, true, cond}
 use mathlib.Core.List.{List, [], _∷_, _++_}
 use mathlib.Core.Logic.{⊎-elim}
 use Prim.Native.Nat.{ℕ, _^_, _≤_, _<_}
@@ -11,13 +11,14 @@ use Rattle.std.proofs.shelf.Tests.{cond-true, cond-false, cases-bool, le-leb, l
 use Rattle.std.specs.Written.{decimal}
 use Rattle.std.specs.declared.option.Option.{Option}
 use Rattle.std.specs.declared.result.Result.{Result}
-use Rattle.std.specs.declared.result.Result.the-variants.{Ok, Err}
+use Rattle.std.specs.declared.result.Result.the-variants.{Ok}
 use Rattle.text.specs.Bytes.{plain-byte, plain-text}
 use Rattle.text.specs.Exact.{Between, Any, Reads-number, Reads-pair, Reads-end, Reads-field, Passes-whole}
 use Rattle.text.specs.Figures.{within}
 use Rattle.text.specs.Pairs.{Step, pair, gap, field, never, ender, Spells}
 use Rattle.text.specs.Whole.{whole, from-bad, ended}
 use Rattle.text.specs.declared.fault.Fault.{Fault}
+use Rattle.text.proofs.Answered.{cond-ok}
 use Rattle.text.proofs.Trips.{decimal-whole, within-sound, within-complete, pair-sound, pair-complete, gap-sound, gap-complete, field-sound, field-complete}
 use Rattle.text.proofs.Wholes.{plain-good}
 
@@ -80,10 +81,6 @@ reads-end last s r is = record {
 }
 
 -- whole texts
-cond-ok : {X E : Type 0} (b : Bool) (r : Result X E) (f : E) (y : X) → cond b r (Err f) ≡ Ok y → (b ≡ true) × (r ≡ Ok y)
-cond-ok true r f y e = (refl, e)
-cond-ok false r f y e = let z : _≡_ {A = ℕ} 0 1 = cc in absurd (omega arith)
-
 good-plain : (s : List ℕ) → length (from-bad s) ≡ 0 → plain-text s ≡ true
 good-plain [] e = refl
 good-plain (c ∷ cs) e =

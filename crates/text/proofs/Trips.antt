@@ -19,20 +19,9 @@ use Rattle.text.specs.declared.fault.Fault.{Fault}
 use Rattle.text.specs.declared.fault.Refusal.the-variants.{OtherKey, BadValue}
 use Rattle.text.specs.Figures.{number, from-low, within}
 use Rattle.text.specs.Pairs.{keyed, stops, word, after, Step, fault, orElse, then, pair, gap-at, gap, field, ender}
-use Rattle.text.proofs.Numbers.{own, cond-some, number-sound, number-complete}
+use Rattle.text.proofs.Answered.{some-inj, none-some, cond-some, ok-inj, err-ok}
+use Rattle.text.proofs.Numbers.{own, number-sound, number-complete}
 use Rattle.text.proofs.Words.{goes-from}
-
-pub some-inj : {X : Type 0} {x y : X} → _≡_ {A = Option X} (Some x) (Some y) → x ≡ y
-some-inj e = cc
-
-pub none-some : {X : Type 0} {y : X} → _≡_ {A = Option X} None (Some y) → ⊥
-none-some e = let z : _≡_ {A = ℕ} 0 1 = cc in omega arith
-
-pub ok-inj : {X : Type 0} {x y : X} → _≡_ {A = Result X Fault} (Ok x) (Ok y) → x ≡ y
-ok-inj e = cc
-
-pub err-ok : {X : Type 0} {f : Fault} {y : X} → _≡_ {A = Result X Fault} (Err f) (Ok y) → ⊥
-err-ok e = let z : _≡_ {A = ℕ} 0 1 = cc in omega arith
 
 -- keys
 keyed-sound : (ks s t : List ℕ) → keyed ks s ≡ Some t → s ≡ ks ++ (61 ∷ t)

@@ -7,7 +7,7 @@ use lib.ListN.{length, length-append}
 use Rattle.jobs.specs.JobType.{kind}
 use Rattle.std.proofs.shelf.Results.{err-from-errBy}
 use Rattle.std.specs.declared.result.Result.the-variants.{Ok, Err}
-use Rattle.text.proofs.Trips.{ok-inj, err-ok}
+use Rattle.text.proofs.Answered.{ok-inj, err-ok}
 use Rattle.record.specs.Read.{read-entries, size-of}
 use Rattle.record.proofs.ReadLines.{with-all, with-none, all-again, all-bad, all-full, all-read}
 use Rattle.record.proofs.read_lines.read_all.Needs as need
