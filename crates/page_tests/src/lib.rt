@@ -1,4 +1,6 @@
 // Examples of the record page and its report: whole pages of both job types, and every refusal at its edge.
+#![tactic(auto)]
+
 use entries::entry::{Call, Entry};
 use entries::header::{Header, JobKind, Register};
 use lanes::report::report;

@@ -4,6 +4,8 @@
 // list of entries; `write::write_page` takes a header and entries and fills a buffer. Each accepts
 // exactly what the other makes. `refusal` says why the writer refuses; the other modules are
 // the parts of the two calls, generic in the job type.
+#![tactic(auto)]
+
 pub mod head;
 pub mod lines;
 pub mod ranges;

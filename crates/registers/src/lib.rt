@@ -4,6 +4,8 @@
 // two registers. `operations` has what registers share: which operation each processor is at, and the refusals.
 // Begin in `specs/Meaning.antt`, which says what a register means to the processors, and `specs/Model.antt`, which
 // says what its calls owe to that meaning.
+#![tactic(auto)]
+
 pub mod answers;
 pub mod operations;
 pub mod promises;

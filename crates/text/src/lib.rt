@@ -3,6 +3,8 @@
 // `reader` and `cursor` read pair by pair, `figures` the numbers; `whole_text` has what is asked of a
 // whole text and where in it a fault lies. `sink` and `put` write: a page is put into a sink that
 // counts, and then, if it fits, into one that fills a lent buffer. `fault` has the refusals.
+#![tactic(auto)]
+
 pub mod cursor;
 pub mod ends;
 pub mod fault;

@@ -1,6 +1,8 @@
 // Reads a record page from standard input and writes to standard output who did what when: the
 // operations of each processor and their lanes, or one line that says why and where the page is faulty.
 // An argument gives the width of the terminal, 80 where there is none.
+#![tactic(auto)]
+
 ghost use Rattle.std.specs.Prelude.{◌≡◌, ◌-◌, ◌^◌, min, length, IfOk};
 ghost use Rattle.lanes.specs.Report.{report_text};
 

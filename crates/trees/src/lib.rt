@@ -3,6 +3,8 @@
 //
 // `walk` has what an operation is about to do, `tree_state` what the tree holds, `tree` the register, and `cases` the
 // worked cases. Begin in `specs/Switches.antt` and `specs/Walks.antt`; docs/TREE.md tells how the proof goes.
+#![tactic(auto)]
+
 pub mod cases;
 pub mod promises;
 pub mod tree;
