@@ -5,20 +5,20 @@ use Rattle.lanes.specs.Report.{report_text, report_size, report_buffer}
 use Rattle.timeline.proofs.Filled.{all_written}
 use Rattle.timeline.proofs.shown.Goals as goal
 
-pub returns-in-err-out : goal.returns-in-err-out
-returns-in-err-out c = IfOk-from_err _ _ c.from-residual-in-err-out.ensures.0
+pub returns-in_err-out : goal.returns-in_err-out
+returns-in_err-out c = IfOk-from_err _ _ c.from-residual-in_err-out.ensures.0
 
 pub returns : goal.returns
 returns c =
     let page = c.args.page.now in
     let width = c.args.width in
-    let out = c.deref-mut-3.result.now in
-    let first : length c.deref-mut.result.now ≡ 1024 = c.deref-mut.ensures.len ∙ c.in-ok-list.ensures.len in
-    let second : length c.deref-mut-2.result.now ≡ 1024 = c.deref-mut-2.ensures.len ∙ c.in-ok-list.ensures.len in
-    let long = c.deref-mut-3.ensures.len ∙ c.in-ok-out.ensures.len ∙ c.report-len-n.ensures ∙ ap (λ (k : ℕ). min (length (report_text k page width)) (2 ^ 64 - 1)) first in
+    let out = c.deref_mut-3.result.now in
+    let first : length c.deref_mut.result.now ≡ 1024 = c.deref_mut.ensures.len ∙ c.in_ok-list.ensures.len in
+    let second : length c.deref_mut-2.result.now ≡ 1024 = c.deref_mut-2.ensures.len ∙ c.in_ok-list.ensures.len in
+    let long = c.deref_mut-3.ensures.len ∙ c.in_ok-out.ensures.len ∙ c.report_len-n.ensures ∙ ap (λ (k : ℕ). min (length (report_text k page width)) (2 ^ 64 - 1)) first in
     let told = c.report.ensures in
     let value = told.value ∙ ap (λ (k : ℕ). report_size (report_text k page width) (length out)) second in
     let bytes = told.bytes ∙ ap (λ (k : ℕ). report_buffer (report_text k page width) out) second in
-    let all = all_written (report_text 1024 page width) out _ _ value (sym c.if-is-err.ensures.value) long bytes in
-    let size : length c.report.new.out ≡ c.in-ok-out.out.len = c.report.auto.out ∙ c.deref-mut-3.ensures.len in
+    let all = all_written (report_text 1024 page width) out _ _ value (sym c.if-is_err.ensures.value) long bytes in
+    let size : length c.report.new.out ≡ c.in_ok-out.out.len = c.report.auto.out ∙ c.deref_mut-3.ensures.len in
     take_at c.report.new.out _ _ size ∙ all

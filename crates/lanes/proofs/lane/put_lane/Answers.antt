@@ -6,9 +6,9 @@ pub returns : goal.returns
 unfolding lane_text
 returns g c =
     let join = g.S.Sink.laws.join in
-    let spaces = subst (λ l. g.S.Sink.took c.put-number.new.s l c.put-bytes-2.new.s) c.padding.ensures c.put-bytes-2.ensures in
-    join _ _ _ _ _ c.put-bytes.ensures
-    (join _ _ _ _ _ c.put-number.ensures
+    let spaces = subst (λ l. g.S.Sink.took c.put_number.new.s l c.put_bytes-2.new.s) c.padding.ensures c.put_bytes-2.ensures in
+    join _ _ _ _ _ c.put_bytes.ensures
+    (join _ _ _ _ _ c.put_number.ensures
     (join _ _ _ _ _ spaces
     (join _ _ _ _ _ c.put.ensures
-    (join _ _ _ _ _ c.put-cells.ensures c.put-bytes-3.ensures))))
+    (join _ _ _ _ _ c.put_cells.ensures c.put_bytes-3.ensures))))

@@ -4,17 +4,17 @@ use Rattle.text.specs.Written.{number_pair}
 use Rattle.lanes.specs.Listing.{job_fields}
 use Rattle.lanes.proofs.listing.put_job.Goals as goal
 
-pub returns-then-shows-job : goal.returns-then-shows-job
+pub returns-then-shows_job : goal.returns-then-shows_job
 unfolding job_fields
-returns-then-shows-job g c =
+returns-then-shows_job g c =
     let e = c.args.e.now in
-    let keys : number_pair c.first-key-bytes.result.now e.first 32 ++ number_pair c.second-key-bytes.result.now e.second 32 ≡ number_pair g.J.Job.names.key1 e.first 32 ++ number_pair g.J.Job.names.key2 e.second 32
-    = λ i. number_pair (c.first-key-bytes.ensures i) e.first 32 ++ number_pair (c.second-key-bytes.ensures i) e.second 32 in
-    subst (λ l. g.S.Sink.took c.args.s.now l c.put-pair-then-shows-job.new.s)
-    (keys ∙ sym (cond-true _ _ _ (sym c.if-shows-job.ensures)))
-    (g.S.Sink.laws.join _ _ _ _ _ c.put-pair.ensures c.put-pair-then-shows-job.ensures)
+    let keys : number_pair c.first_key_bytes.result.now e.first 32 ++ number_pair c.second_key_bytes.result.now e.second 32 ≡ number_pair g.J.Job.names.key1 e.first 32 ++ number_pair g.J.Job.names.key2 e.second 32
+    = λ i. number_pair (c.first_key_bytes.ensures i) e.first 32 ++ number_pair (c.second_key_bytes.ensures i) e.second 32 in
+    subst (λ l. g.S.Sink.took c.args.s.now l c.put_pair-then-shows_job.new.s)
+    (keys ∙ sym (cond-true _ _ _ (sym c.if-shows_job.ensures)))
+    (g.S.Sink.laws.join _ _ _ _ _ c.put_pair.ensures c.put_pair-then-shows_job.ensures)
 
-pub returns-else-shows-job : goal.returns-else-shows-job
+pub returns-else-shows_job : goal.returns-else-shows_job
 unfolding job_fields
-returns-else-shows-job g c =
-    subst (λ l. g.S.Sink.took c.args.s.now l c.args.s.now) (sym (cond-false _ _ _ (sym c.if-shows-job.ensures))) (g.S.Sink.laws.none _)
+returns-else-shows_job g c =
+    subst (λ l. g.S.Sink.took c.args.s.now l c.args.s.now) (sym (cond-false _ _ _ (sym c.if-shows_job.ensures))) (g.S.Sink.laws.none _)

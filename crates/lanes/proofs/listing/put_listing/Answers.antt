@@ -17,7 +17,7 @@ loop-p-preserved g c = λ u rest.
     c.loop-p.invariant u
     (subst (λ (l : List ℕ). g.S.Sink.took c.loop-p.s (flat_map (processor_text (kind g.J.Job.names g.J.Job.made) c.args.entries.now) l) u)
     (sym (count_more c.loop-p.p c.args.processors c.loop-p-test.true))
-    (g.S.Sink.laws.join _ _ _ _ _ c.put-processor.ensures rest))
+    (g.S.Sink.laws.join _ _ _ _ _ c.put_processor.ensures rest))
 
 pub returns : goal.returns
 returns g c =

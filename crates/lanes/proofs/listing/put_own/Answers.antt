@@ -6,7 +6,7 @@ use Rattle.lanes.proofs.listing.put_own.Goals as goal
 pub returns-then-e-processor : goal.returns-then-e-processor
 unfolding own_text
 returns-then-e-processor g c =
-    subst (λ l. g.S.Sink.took c.args.s.now l c.put-operation.new.s) (sym (cond-true _ _ _ (eq-eqb _ _ c.if-e-processor.true))) c.put-operation.ensures
+    subst (λ l. g.S.Sink.took c.args.s.now l c.put_operation.new.s) (sym (cond-true _ _ _ (eq-eqb _ _ c.if-e-processor.true))) c.put_operation.ensures
 
 pub returns-else-e-processor : goal.returns-else-e-processor
 unfolding own_text

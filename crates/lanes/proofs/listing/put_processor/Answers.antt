@@ -5,4 +5,4 @@ pub returns : goal.returns
 unfolding processor_text
 returns g c =
     let join = g.S.Sink.laws.join in
-    join _ _ _ _ _ c.put-bytes.ensures (join _ _ _ _ _ c.put-number.ensures (join _ _ _ _ _ c.put.ensures c.put-operations.ensures))
+    join _ _ _ _ _ c.put_bytes.ensures (join _ _ _ _ _ c.put_number.ensures (join _ _ _ _ _ c.put.ensures c.put_operations.ensures))

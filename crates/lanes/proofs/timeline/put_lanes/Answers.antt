@@ -17,7 +17,7 @@ loop-p-preserved g c = λ u rest.
     c.loop-p.invariant u
     (subst (λ (l : List ℕ). g.S.Sink.took c.loop-p.s (flat_map (lane_text c.args.scale c.args.entries.now) l) u)
     (sym (count_more c.loop-p.p c.args.processors c.loop-p-test.true))
-    (g.S.Sink.laws.join _ _ _ _ _ c.put-lane.ensures rest))
+    (g.S.Sink.laws.join _ _ _ _ _ c.put_lane.ensures rest))
 
 pub returns : goal.returns
 returns g c =

@@ -5,4 +5,4 @@ pub returns : goal.returns
 unfolding title
 returns g c =
     let join = g.S.Sink.laws.join in
-    join _ _ _ _ _ c.put-bytes.ensures (join _ _ _ _ _ c.put-number.ensures (join _ _ _ _ _ c.put-bytes-2.ensures (join _ _ _ _ _ c.put-number-2.ensures c.put-bytes-3.ensures)))
+    join _ _ _ _ _ c.put_bytes.ensures (join _ _ _ _ _ c.put_number.ensures (join _ _ _ _ _ c.put_bytes-2.ensures (join _ _ _ _ _ c.put_number-2.ensures c.put_bytes-3.ensures)))

@@ -10,7 +10,7 @@ loop-e-preserved g c = (
   λ u rest. c.loop-e.invariant.1 u
       (subst (λ l. g.S.Sink.took c.loop-e.s l u)
       (sym (at_drop_more (entries_text (kind g.J.Job.names g.J.Job.made) c.loop-e.op) c.args.entries.now c.loop-e.e-index _ c.loop-e-test.true))
-      (g.S.Sink.laws.join _ _ _ _ _ c.put-entry.ensures rest)),
+      (g.S.Sink.laws.join _ _ _ _ _ c.put_entry.ensures rest)),
 )
 
 pub returns : goal.returns

@@ -10,7 +10,7 @@ use Rattle.record.proofs.read.read_lines.Goals as goal
 
 pub returns-in-Check : goal.returns-in-Check
 returns-in-Check c =
-    let told = c.fill-list.ensures in
+    let told = c.fill_list.ensures in
     let room = length c.args.list.now in
     let h = c.args.h.now in
     let r = ranged h c.requires.ranged in
@@ -20,7 +20,7 @@ returns-in-Check c =
 
 pub returns-in-Span : goal.returns-in-Span
 returns-in-Span c =
-    let told = c.fill-list-in-Span.ensures in
+    let told = c.fill_list-in-Span.ensures in
     let room = length c.args.list.now in
     let h = c.args.h.now in
     let r = ranged h c.requires.ranged in

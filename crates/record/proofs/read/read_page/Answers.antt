@@ -12,5 +12,5 @@ returns-in-Ok c =
 pub returns-in-Err : goal.returns-in-Err
 returns-in-Err c =
     let told = c.in-Err.ensures in
-    let value = ap Err c.place-of.ensures.value ∙ answer_err c.args.text.now _ _ told.value in
+    let value = ap Err c.place_of.ensures.value ∙ answer_err c.args.text.now _ _ told.value in
     record { value = value; filled = told.filled; trip = takes_written c.args.text.now c.args.list.now _ _ value told.filled }

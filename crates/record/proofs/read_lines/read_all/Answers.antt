@@ -17,10 +17,10 @@ loop-left-preserved g c =
     let some : 0 < length c.loop-left.r.rest.now = omega (arith, false-eqb _ 0 c.loop-left-test.ensures) in (
       omega arith,
       (
-        i.0 ++ (c.in-ok-e.e ∷ []),
-        omega (arith, length-append i.0 (c.in-ok-e.e ∷ []), i.1),
+        i.0 ++ (c.in_ok-e.e ∷ []),
+        omega (arith, length-append i.0 (c.in_ok-e.e ∷ []), i.1),
         g.S.Sink.laws.join _ _ _ _ _ i.2 c.put.ensures,
-        all_again _ _ _ _ _ _ _ _ _ c.if-n-room.false some i.3 (sym c.in-ok-e.ensures),
+        all_again _ _ _ _ _ _ _ _ _ c.if-n-room.false some i.3 (sym c.in_ok-e.ensures),
       ),
     )
 
@@ -28,14 +28,14 @@ pub returns-then-n-room : goal.returns-then-n-room
 returns-then-n-room g c =
     let i = c.loop-left.invariant.1 in
     let some : 0 < length c.loop-left.r.rest.now = omega (arith, false-eqb _ 0 c.loop-left-test.ensures) in
-    let is = all_full _ _ _ _ _ _ _ _ _ c.if-n-room.true some i.3 (sym c.in-ok-e.ensures) in
+    let is = all_full _ _ _ _ _ _ _ _ _ c.if-n-room.true some i.3 (sym c.in_ok-e.ensures) in
     record { value = sym (ap size_of is); taken = λ es e. absurd (err_ok (sym is ∙ e)) }
 
-pub returns-in-err-e : goal.returns-in-err-e
-returns-in-err-e g c =
+pub returns-in_err-e : goal.returns-in_err-e
+returns-in_err-e g c =
     let i = c.loop-left.invariant.1 in
     let some : 0 < length c.loop-left.r.rest.now = omega (arith, false-eqb _ 0 c.loop-left-test.ensures) in
-    let is = all_bad _ _ _ _ _ _ _ _ some i.3 (sym c.in-err-e.ensures) in
+    let is = all_bad _ _ _ _ _ _ _ _ some i.3 (sym c.in_err-e.ensures) in
     let p = err_from_is_err_and c.from-residual.result c.from-residual.ensures.1 in
     record { value = p.1 ∙ ap Err p.2 ∙ sym (ap size_of is); taken = λ es e. absurd (err_ok (sym is ∙ e)) }
 

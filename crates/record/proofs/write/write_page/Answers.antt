@@ -17,7 +17,7 @@ returns-in-Check c =
 
 pub returns-in-Span : goal.returns-in-Span
 returns-in-Span c =
-    let told = c.write-jobs-in-Span.ensures in
+    let told = c.write_jobs-in-Span.ensures in
     let same = ap job_kind (sym c.in-Span.is) in
     let out = c.args.out.now in
     let h = c.args.h.now in

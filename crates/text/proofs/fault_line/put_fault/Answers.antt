@@ -7,6 +7,6 @@ pub returns : goal.returns
 unfolding fault_text
 returns g c =
     let join = g.S.Sink.laws.join in
-    let number = subst (λ n. g.S.Sink.took c.args.s.now (number_pair (codes "fault") n 32) c.put-pair.new.s) c.number.ensures c.put-pair.ensures in
-    let layer = subst (λ l. g.S.Sink.took c.put-pair-3.new.s (word_pair (codes "layer") l 10) c.put-word.new.s) (c.word.ensures ∙ ap layer_text c.layer.ensures) c.put-word.ensures in
-    join _ _ _ _ _ number (join _ _ _ _ _ c.put-pair-2.ensures (join _ _ _ _ _ c.put-pair-3.ensures layer))
+    let number = subst (λ n. g.S.Sink.took c.args.s.now (number_pair (codes "fault") n 32) c.put_pair.new.s) c.number.ensures c.put_pair.ensures in
+    let layer = subst (λ l. g.S.Sink.took c.put_pair-3.new.s (word_pair (codes "layer") l 10) c.put_word.new.s) (c.word.ensures ∙ ap layer_text c.layer.ensures) c.put_word.ensures in
+    join _ _ _ _ _ number (join _ _ _ _ _ c.put_pair-2.ensures (join _ _ _ _ _ c.put_pair-3.ensures layer))

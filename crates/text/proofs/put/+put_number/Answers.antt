@@ -9,4 +9,4 @@ returns-then-n-lt10 g t c =
 pub returns : goal.returns
 returns g t c =
     subst (λ l. g.S.Sink.took c.args.s.now l c.put-2.new.self) (sym (decimal_step _ c.if-n-lt10.false (omega arith)))
-    (g.S.Sink.laws.join _ _ _ _ _ c.put-number.ensures c.put-2.ensures)
+    (g.S.Sink.laws.join _ _ _ _ _ c.put_number.ensures c.put-2.ensures)

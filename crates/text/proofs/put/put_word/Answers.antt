@@ -5,4 +5,4 @@ pub returns : goal.returns
 unfolding word_pair
 returns g c =
     let join = g.S.Sink.laws.join in
-    join _ _ _ _ _ c.put-bytes.ensures (join _ _ _ _ _ c.put.ensures (join _ _ _ _ _ c.put-bytes-2.ensures c.put-2.ensures))
+    join _ _ _ _ _ c.put_bytes.ensures (join _ _ _ _ _ c.put.ensures (join _ _ _ _ _ c.put_bytes-2.ensures c.put-2.ensures))

@@ -11,9 +11,9 @@ pub returns-then-left-gt0 : goal.returns-then-left-gt0
 unfolding whole
 returns-then-left-gt0 c = passes_whole _ _ _ (search rules)
 
-pub returns-then-not-is-ended : goal.returns-then-not-is-ended
+pub returns-then-not-is_ended : goal.returns-then-not-is_ended
 unfolding whole
-returns-then-not-is-ended c = passes_whole _ _ _ (search rules)
+returns-then-not-is_ended c = passes_whole _ _ _ (search rules)
 
 pub returns : goal.returns
 unfolding whole

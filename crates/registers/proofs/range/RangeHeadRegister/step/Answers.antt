@@ -11,7 +11,7 @@ pub invariant-of-self : goal.invariant-of-self
 invariant-of-self c =
     let s = c.args.self.now in
     let p = c.args.processor in
-    let found = found_under_way p (at s.state.operations p) _ c.in-ok-operation.ensures in
+    let found = found_under_way p (at s.state.operations p) _ c.in_ok-operation.ensures in
     let m = most_set 0 (λ x. x) s.state.own p c.max-seen.result (omega arith) in
     let q = most_at 0 (λ x. x) refl s.state.own p in
     let t = most_there (λ x. x) s.state.own p c.max-seen.result (omega arith) in (
@@ -24,7 +24,7 @@ invariant-of-self-then-n-own c =
     let s = c.args.self.now in
     let p = c.args.processor in
     let n = c.in-Write.n in
-    let found = found_under_way p (at s.state.operations p) _ c.in-ok-operation.ensures in
+    let found = found_under_way p (at s.state.operations p) _ c.in_ok-operation.ensures in
     let is = found.1 ∙ ap Some c.in-Write.is in
     let small = asked_at single_op s.state.operations p 256 (Write n) s.asked is in (
       simp length-set s.sixteen,

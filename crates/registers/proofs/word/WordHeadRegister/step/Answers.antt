@@ -14,6 +14,6 @@ invariant-of-self c =
 pub invariant-of-self-in-Write : goal.invariant-of-self-in-Write
 invariant-of-self-in-Write c =
     let s = c.args.self.now in
-    let is = (found_under_way _ (at s.state.operations c.args.processor) _ c.in-ok-operation.ensures).1 ∙ ap Some c.in-Write.is in
+    let is = (found_under_way _ (at s.state.operations c.args.processor) _ c.in_ok-operation.ensures).1 ∙ ap Some c.in-Write.is in
     let small = asked_at single_op s.state.operations c.args.processor 256 (Write c.in-Write.n) s.asked is in
     (simp length-set s.sixteen, (omega arith, (still_asked single_op s.state.operations c.args.processor 256 None s.asked (omega arith), tt)))

@@ -9,5 +9,5 @@ use Rattle.trees.proofs.tree.TreeHeadRegister.begin_read.Goals as goal
 pub invariant-of-self : goal.invariant-of-self
 invariant-of-self c =
     let x = c.args.self.now in
-    let (h, free) = allowed_read c.args.processor (at x.state.operations c.args.processor) c.in-ok-check-read.ensures in
+    let (h, free) = allowed_read c.args.processor (at x.state.operations c.args.processor) c.in_ok-check_read.ensures in
     begin_keeps x c.args.processor h (Some (Reading 1 7)) free (omega arith) (starts_read x.state.on)
