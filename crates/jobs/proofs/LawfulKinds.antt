@@ -1,5 +1,5 @@
 -- What a page relies on of a job type follows from what every job type owes.
-use Rattle.std.proofs.Common.{◌≡◌, ℕ, ◌^◌, ◌<◌, true, leb, List, length, is_some, Some, None, Option, refl}
+use Rattle.std.proofs.Common.{◌≡◌, ℕ, true, leb, List, length, is_some, Some, None, Option, refl}
 use Rattle.std.proofs.lemmas.Bool.{and_parts, false≢true}
 use Rattle.jobs.specs.JobType.{Names, Name, letters, Laws, Lawful, kind}
 

@@ -1,9 +1,9 @@
 -- A written pair is read as it was, and what is read is a written pair: numbers and words.
-use Rattle.std.proofs.Common.{◌≡◌, ℕ, ◌^◌, ◌<◌, ◌≤◌, Bool, true, false, List, [], ◌∷◌, ◌++◌, Ok, decimal, Option, sym, ap, ◌∙◌, append_assoc, arith}
+use Rattle.std.proofs.Common.{◌≡◌, ℕ, ◌^◌, ◌<◌, ◌≤◌, Bool, List, [], ◌∷◌, ◌++◌, Ok, decimal, Option, sym, ap, ◌∙◌, append_assoc, arith}
 use Rattle.text.specs.Figures.{within}
 use Rattle.text.specs.Pairs.{pair, gap, field, never, ender, Spells}
 use Rattle.text.specs.Written.{word_pair, number_pair}
-use Rattle.text.proofs.Trips.{ender_stops, decimal_whole, within_sound, within_complete, pair_sound, pair_complete, gap_sound, gap_complete, field_sound, field_complete}
+use Rattle.text.proofs.Trips.{ender_stops, decimal_whole, within_sound, within_complete, pair_sound, pair_complete, gap_sound, field_sound, field_complete}
 
 -- a pair before the rest of a text
 pub paired : (key w : List ℕ) (end : ℕ) (t : List ℕ) → (key ++ (61 ∷ (w ++ (end ∷ [])))) ++ t ≡ key ++ (61 ∷ (w ++ (end ∷ t)))

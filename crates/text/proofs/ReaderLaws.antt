@@ -1,10 +1,10 @@
 -- Each reader takes exactly what is written, if it gives the value of its definition.
-use Rattle.std.proofs.Common.{◌≡◌, ℕ, ◌^◌, ◌<◌, ◌≤◌, Bool, true, cond, eqb, leb, List, [], ◌∷◌, ◌++◌, length, Ok, decimal, Option, Result, sym, refl, ap, ◌∙◌, ⊎_elim, arith}
+use Rattle.std.proofs.Common.{◌≡◌, ℕ, ◌^◌, ◌<◌, Bool, true, eqb, leb, List, [], ◌∷◌, ◌++◌, length, decimal, Option, Result, sym, refl, ap, ◌∙◌, ⊎_elim, arith}
 use Rattle.std.proofs.lemmas.Bool.{cond-true, cond-false, cases_Bool, le-leb, leb-true, eq-eqb, eqb-true, and_from}
 use Rattle.text.specs.Bytes.{plain_byte, plain_text}
 use Rattle.text.specs.Exact.{Between, Any, ReadsNumber, ReadsPair, ReadsEnd, ReadsField, PassesWhole}
 use Rattle.text.specs.Figures.{within}
-use Rattle.text.specs.Pairs.{Step, pair, gap, field, never, ender, Spells}
+use Rattle.text.specs.Pairs.{Step, pair, gap, field, never, Spells}
 use Rattle.text.specs.Whole.{whole, from_bad, ended}
 use Rattle.text.specs.declared.fault.Fault.{Fault}
 use Rattle.text.proofs.Answered.{cond_ok}

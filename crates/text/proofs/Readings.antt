@@ -1,8 +1,8 @@
 -- Laws of `figures` and `number`.
-use Rattle.std.proofs.Common.{◌≡◌, ℕ, ◌+◌, ◌-◌, ◌*◌, ◌<◌, ◌≤◌, true, false, cond, ◌&&◌, eqb, leb, ◌⊎◌, List, [], ◌∷◌, ◌++◌, length, get_or, drop, Some, None, Option, sym, refl, ap, ◌∙◌, inl, inr, ⊎_elim, arith}
+use Rattle.std.proofs.Common.{◌≡◌, ℕ, ◌+◌, ◌-◌, ◌*◌, ◌<◌, ◌≤◌, leb, ◌⊎◌, List, length, get_or, drop, Some, None, ◌∙◌, ⊎_elim}
 use Rattle.std.proofs.lemmas.List.{at_drop_more, at_drop_all}
 use Rattle.std.proofs.lemmas.Bool.{cond-true, cond-false, and_from, and_left, and_right, le-leb, lt-leb}
-use Rattle.text.specs.Figures.{figures, number}
+use Rattle.text.specs.Figures.{figures}
 
 -- one figure more of a text
 pub figures_more : (most n i : ℕ) (bs : List ℕ) → i < length bs → 48 ≤ get_or bs i 0 → get_or bs i 0 ≤ 57 → n * 10 + (get_or bs i 0 - 48) ≤ most → figures most n (drop i bs) ≡ figures most (n * 10 + (get_or bs i 0 - 48)) (drop (i + 1) bs)

@@ -1,9 +1,9 @@
 -- Laws of `keyed`, `word`, `after`, `pair` and `gap`.
-use Rattle.std.proofs.Common.{◌≡◌, ℕ, suc, ◌+◌, ◌-◌, ◌<◌, ◌≤◌, Bool, true, false, cond, ◌||◌, eqb, ◌⊎◌, List, [], ◌∷◌, ◌++◌, length, get_or, take, drop, Some, None, Ok, Err, Option, sym, refl, ap, ◌∙◌, subst, inl, inr, ⊎_elim, add-one, one-add, arith}
+use Rattle.std.proofs.Common.{◌≡◌, ℕ, ◌+◌, ◌-◌, ◌<◌, ◌≤◌, true, false, cond, eqb, ◌⊎◌, List, [], ◌∷◌, length, get_or, take, drop, Some, None, Ok, Err, Option, refl, ap, ◌∙◌, ⊎_elim, arith}
 use Rattle.std.proofs.lemmas.List.{at_drop_more, at_drop_all, drop_more, drop_all, take_rest}
 use Rattle.std.proofs.lemmas.Bool.{cond-true, cond-false, eq-eqb, ne_eqb, or_left, or_right, or_from}
 use Rattle.text.specs.declared.fault.Refusal.TheVariants.{OtherKey, BadValue}
-use Rattle.text.specs.Pairs.{keyed, stops, word, after, Step, fault, or_else, pair, gap}
+use Rattle.text.specs.Pairs.{keyed, stops, word, after, fault, pair}
 
 pub keyed_short : (ks s : List ℕ) → length s ≤ length ks → keyed ks s ≡ None
 keyed_short [] [] h = refl

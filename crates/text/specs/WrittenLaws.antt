@@ -1,5 +1,5 @@
 -- Laws of `written`.
-use Rattle.std.specs.Prelude.{◌≡◌, ℕ, suc, ◌+◌, ◌-◌, ◌<◌, ◌≤◌, List, [], ◌∷◌, ◌++◌, length, take, drop, slice_set, refl}
+use Rattle.std.specs.Prelude.{◌≡◌, ℕ, ◌+◌, ◌<◌, ◌≤◌, List, [], ◌∷◌, ◌++◌, length, take, drop, slice_set}
 use Rattle.std.proofs.Common.{sym, ap, ◌∙◌, append_assoc, add_assoc, add-zero, add-one, arith, length-append, length-take, length-drop, take-append-drop, length-take-le}
 use Rattle.std.proofs.lemmas.List.{take_at, drop_at, set_split, drop-drop}
 use Rattle.text.specs.Written.{written}

@@ -1,4 +1,4 @@
-use Rattle.std.proofs.Common.{◌≡◌, codes, ap, ◌∙◌, subst}
+use Rattle.std.proofs.Common.{codes, ap, ◌∙◌, subst}
 use Rattle.text.specs.FaultLine.{layer_text, fault_text}
 use Rattle.text.specs.Written.{word_pair, number_pair}
 use Rattle.text.proofs.fault_line.put_fault.Goals as goal

@@ -1,4 +1,4 @@
-use Rattle.std.proofs.Common.{◌≡◌, sym, ap, subst, arith, take_all}
+use Rattle.std.proofs.Common.{sym, subst, arith, take_all}
 use Rattle.std.proofs.lemmas.List.{take_more}
 use Rattle.text.proofs.put.put_bytes.Goals as goal
 

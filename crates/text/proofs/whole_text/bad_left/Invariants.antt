@@ -1,4 +1,4 @@
-use Rattle.std.proofs.Common.{◌≡◌, length, drop}
+use Rattle.std.proofs.Common.{◌≡◌, drop}
 use Rattle.text.specs.Whole.{from_bad}
 use Rattle.text.proofs.whole_text.bad_left.Given as goal
 
