@@ -1,7 +1,6 @@
 -- The header that is written is read as it was, and a header that is read is one that is written.
-use Rattle.std.proofs.Common.{◌≡◌, ℕ, ◌≤◌, true, ◌&&◌, leb, List, ◌++◌, Ok, codes, sym, refl, ap, ◌∙◌, subst, append_assoc, arith}
+use Rattle.std.proofs.Common.{◌≡◌, ℕ, ◌≤◌, true, leb, List, ◌++◌, Ok, codes, sym, refl, ap, ◌∙◌, subst, append_assoc, arith}
 use Rattle.std.proofs.lemmas.Bool.{le-leb, leb-true, and_from, and_parts}
-use Rattle.text.specs.Pairs.{then}
 use Rattle.text.specs.Written.{word_pair, number_pair}
 use Rattle.text.proofs.Answered.{ok_inj}
 use Rattle.text.proofs.Trips.{then_on, then_at, gap_complete}

@@ -1,5 +1,5 @@
 -- The lines that are written are read as they are shown, and lines that are read are lines that are written.
-use Rattle.std.proofs.Common.{◌≡◌, ℕ, zero, suc, ◌+◌, ◌-◌, ◌^◌, ◌<◌, ◌≤◌, min, Bool, true, false, cond, not, ◌&&◌, ◌||◌, leb, ◌⊎◌, List, [], ◌∷◌, ◌++◌, map, length, Ok, Err, codes, sym, refl, ap, ◌∙◌, subst, ⊎_elim, append_assoc, arith, length-append}
+use Rattle.std.proofs.Common.{◌≡◌, ℕ, zero, suc, ◌+◌, ◌-◌, ◌^◌, ◌<◌, ◌≤◌, min, Bool, true, false, cond, not, ◌||◌, leb, ◌⊎◌, List, [], ◌∷◌, ◌++◌, map, length, Ok, Err, codes, sym, refl, ap, ◌∙◌, subst, ⊎_elim, append_assoc, arith, length-append}
 use Rattle.std.proofs.lemmas.Bool.{cond-true, cond-false, cases_Bool, le-leb, leb-true, and_from, and_parts}
 use Rattle.jobs.specs.JobType.{Kind, Lawful}
 use Rattle.text.specs.Figures.{within}
@@ -14,7 +14,7 @@ use Rattle.entries.specs.CallLaws.{call_laws}
 use Rattle.entries.specs.declared.entry.Entry.{Entry}
 use Rattle.entries.specs.declared.header.Header.{Header}
 use Rattle.record.specs.Lines.{shown, shows, task_end, job_pairs, entry_text, entries_text, as_shown}
-use Rattle.record.specs.Read.{read_job, read_shown, read_entry_gives, read_entries, with_first, after_line}
+use Rattle.record.specs.Read.{read_job, read_shown, read_entry_gives, read_entries, with_first}
 use Rattle.record.specs.Write.{in_range, is_job, all_of}
 use Rattle.record.proofs.ReadLines.{lines_none, lines_more, after_line_on, after_line_same, with_first_on}
 use Rattle.record.proofs.Tested.{entry_some}

@@ -3,7 +3,7 @@ use Rattle.std.proofs.Common.{◌≡◌, ℕ, ◌+◌, ◌^◌, ◌<◌, ◌≤�
 use lib.ListN.{length-map}
 use Rattle.std.proofs.lemmas.Bool.{leb-true, and_parts}
 use Rattle.jobs.specs.CheckLaws.{check_laws}
-use Rattle.jobs.specs.JobType.{Kind, Lawful}
+use Rattle.jobs.specs.JobType.{Lawful}
 use Rattle.jobs.specs.SpanLaws.{span_laws}
 use Rattle.jobs.proofs.LawfulKinds.{lawful}
 use Rattle.text.specs.Pairs.{Step}
@@ -19,7 +19,7 @@ use Rattle.record.specs.Lines.{entries_text, as_shown}
 use Rattle.record.specs.Read.{read_entries, with_header, after_header, if_whole, read_page_gives, read_answer, list_of_page}
 use Rattle.record.specs.Trip.{Makes, TakesWhatIsWritten, MakesWhatIsRead}
 use Rattle.entries.specs.HeaderWords.{job_kind}
-use Rattle.record.specs.Write.{in_range, is_job, all_of, fitted, page_text, write_jobs_gives, write_page_gives, text_size, buffer_after}
+use Rattle.record.specs.Write.{in_range, is_job, all_of, page_text, write_jobs_gives, write_page_gives, text_size, buffer_after}
 use Rattle.entries.specs.declared.header.Header.{Header}
 use Rattle.entries.specs.declared.header.JobKind.{JobKind}
 use Rattle.entries.specs.declared.header.JobKind.TheVariants.{Check, Span}

@@ -1,5 +1,5 @@
 -- Laws of `read-page`.
-use Rattle.std.proofs.Common.{◌≡◌, ℕ, List, length, Ok, Err, Result, sym, refl, ap, ◌∙◌}
+use Rattle.std.proofs.Common.{◌≡◌, ℕ, List, Ok, Err, Result, sym, refl, ap, ◌∙◌}
 use Rattle.text.specs.Whole.{whole, placed}
 use Rattle.text.specs.declared.fault.Fault.{Fault}
 use Rattle.text.proofs.Answered.{ok_inj, err_ok}

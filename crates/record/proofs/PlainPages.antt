@@ -1,9 +1,9 @@
 -- A page that is written passes what is asked of a whole text.
-use Rattle.std.proofs.Common.{◌≡◌, ℕ, ◌+◌, ◌-◌, ◌^◌, ◌<◌, ◌≤◌, Bool, true, false, cond, not, ◌&&◌, ◌||◌, eqb, leb, List, [], ◌∷◌, ◌++◌, length, Ok, codes, sym, refl, ap, ◌∙◌, subst, append-nil, arith}
+use Rattle.std.proofs.Common.{◌≡◌, ℕ, ◌+◌, ◌-◌, ◌^◌, ◌<◌, ◌≤◌, Bool, true, false, cond, not, ◌||◌, leb, List, [], ◌∷◌, ◌++◌, length, Ok, codes, sym, refl, ap, ◌∙◌, subst, append-nil, arith}
 use Rattle.std.proofs.lemmas.Bool.{cond-true, le-leb, leb-true, eq-eqb, and_from, and_parts}
 use Rattle.jobs.specs.JobType.{Kind, Lawful, letters}
 use Rattle.text.specs.Bytes.{plain_byte, plain_text}
-use Rattle.text.specs.Whole.{ended, from_bad, whole}
+use Rattle.text.specs.Whole.{ended, whole}
 use Rattle.text.specs.Written.{word_pair, number_pair}
 use Rattle.text.proofs.PlainPairs.{Plain, both, between_plain, word_plain, number_plain, pair_some, number_some, pair_ended, number_ended, some_after}
 use Rattle.text.proofs.Wholes.{ended-append, ended_tail, plain_good}

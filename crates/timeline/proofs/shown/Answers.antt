@@ -6,7 +6,7 @@ use Rattle.timeline.proofs.Filled.{all_written}
 use Rattle.timeline.proofs.shown.Goals as goal
 
 pub returns-in_err-out : goal.returns-in_err-out
-returns-in_err-out c = IfOk-from_err _ _ c.from-residual-in_err-out.ensures.0
+returns-in_err-out c = IfOk-from_err _ _ c.from_residual-in_err-out.ensures.0
 
 pub returns : goal.returns
 returns c =

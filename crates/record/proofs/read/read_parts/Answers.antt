@@ -26,7 +26,7 @@ returns-in_err-n c =
     let read = read_entries (job_kind h.job) h room 0 c.read_head.new.r.rest.now in
     let is = page_is room c.args.text.now tt h c.read_head.new.r.rest.now (sym c.in_ok-check_whole.ensures.is) (sym c.in_ok-header.ensures.value) in
     let told = c.in_err-n.ensures in
-    let p = err_from_is_err_and c.from-residual-in_err-n.result c.from-residual-in_err-n.ensures.1 in
+    let p = err_from_is_err_and c.from_residual-in_err-n.result c.from_residual-in_err-n.ensures.1 in
     record {
       value = p.1 ∙ ap Err p.2 ∙ counted_err h read _ told.value ∙ sym (ap counted_page is);
       filled = told.filled ∙ list_with h read c.args.list.now ∙ sym (ap (λ r. list_of_page r c.args.list.now) is);

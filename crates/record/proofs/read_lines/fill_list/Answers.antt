@@ -1,7 +1,6 @@
-use Rattle.std.proofs.Common.{◌≡◌, ℕ, ◌≤◌, min, length, sym, refl, ap, ◌∙◌, subst, arith, rules}
+use Rattle.std.proofs.Common.{ℕ, ◌≤◌, length, sym, ap, ◌∙◌, arith, rules}
 use Rattle.jobs.specs.JobType.{kind}
-use Rattle.text.specs.Written.{written}
-use Rattle.record.specs.Read.{read_entries, size_of, list_after}
+use Rattle.record.specs.Read.{read_entries, list_after}
 use Rattle.record.proofs.ReadLines.{ok_from_size, lines_within}
 use Rattle.record.proofs.read_lines.fill_list.Goals as goal
 

@@ -3,7 +3,7 @@ use Rattle.jobs.specs.JobType.{kind}
 use Rattle.std.proofs.lemmas.Result.{err_from_is_err_and}
 use Rattle.text.proofs.Answered.{ok_inj, err_ok}
 use Rattle.record.specs.Read.{read_entries, size_of}
-use Rattle.record.proofs.ReadLines.{with_all, with_none, all_again, all_bad, all_full, all_read}
+use Rattle.record.proofs.ReadLines.{with_none, all_again, all_bad, all_full, all_read}
 use Rattle.record.proofs.read_lines.read_all.Goals as goal
 
 pub loop-left-init : goal.loop-left-init
@@ -36,7 +36,7 @@ returns-in_err-e g c =
     let i = c.loop-left.invariant.1 in
     let some : 0 < length c.loop-left.r.rest.now = omega (arith, false-eqb _ 0 c.loop-left-test.ensures) in
     let is = all_bad _ _ _ _ _ _ _ _ some i.3 (sym c.in_err-e.ensures) in
-    let p = err_from_is_err_and c.from-residual.result c.from-residual.ensures.1 in
+    let p = err_from_is_err_and c.from_residual.result c.from_residual.ensures.1 in
     record { value = p.1 ∙ ap Err p.2 ∙ sym (ap size_of is); taken = λ es e. absurd (err_ok (sym is ∙ e)) }
 
 pub returns : goal.returns

@@ -6,7 +6,7 @@ use Rattle.record.proofs.write.write_page.Goals as goal
 
 pub returns-in-Check : goal.returns-in-Check
 returns-in-Check c =
-    let told = c.write_jobs_gives.ensures in
+    let told = c.write_jobs.ensures in
     let same = ap job_kind (sym c.in-Check.is) in
     let out = c.args.out.now in
     let h = c.args.h.now in
