@@ -1,6 +1,6 @@
 -- A buffer of just the report's length holds the report once it is filled.
-use Rattle.std.proofs.Common.{◌≡◌, ℕ, ◌+◌, ◌-◌, ◌^◌, ◌≤◌, min, Bool, true, false, cond, leb, List, [], ◌++◌, length, take, drop, is_err, Ok, Err, Result, sym, refl, ap, ◌∙◌, append-nil, arith}
-use Rattle.std.proofs.lemmas.List.{take_at, drop_all}
+use Rattle.std.proofs.Common.{◌≡◌, ℕ, ◌+◌, ◌-◌, ◌^◌, min, Bool, true, false, cond, List, ◌++◌, length, is_err, Ok, Err, Result, sym, refl, ap, ◌∙◌, append-nil, arith}
+use Rattle.std.proofs.lemmas.List.{drop_all}
 use Rattle.std.proofs.lemmas.Bool.{cond-true, leb-true, false≢true}
 use Rattle.text.specs.Written.{written}
 use Rattle.lanes.specs.Report.{fits, report_size, report_buffer}
