@@ -1,5 +1,5 @@
 -- What a caller of any head register learns from an answer: of a sound register, all that the plain laws say.
-use Rattle.std.proofs.Common.{◌≡◌, ℕ, ◌<◌, ◌≤◌, true, false, Some, None, Ok, Err, Option, Result, sym, refl, subst, arith}
+use Rattle.std.proofs.Common.{◌≡◌, ℕ, ◌<◌, Some, None, Ok, Option, refl, arith}
 use Rattle.registers.specs.declared.answers.Became.{Became}
 use Rattle.registers.specs.declared.answers.Refusal.{Refusal}
 use Rattle.registers.specs.Meaning.{is_busy}

@@ -1,12 +1,12 @@
 -- In every run an operation under way has made just the accesses that its processor's steps count, and fewer than stated.
-use Rattle.std.proofs.Common.{◌≡◌, ℕ, ◌+◌, ◌<◌, Bool, true, false, cond, eqb, List, [], ◌∷◌, refl, ap, ◌∙◌, arith}
+use Rattle.std.proofs.Common.{◌≡◌, ℕ, ◌+◌, ◌<◌, Bool, true, false, cond, eqb, List, refl, arith}
 use Rattle.std.proofs.lemmas.Bool.{eqb-true, eqb-false}
 use Rattle.registers.specs.declared.answers.Became.{Became}
 use Rattle.registers.specs.declared.answers.Became.TheVariants.{Going, Read, Written}
 use Rattle.registers.specs.declared.answers.Limits.{Limits}
 use Rattle.registers.specs.Meaning.{Meaning, Doing, idle, busy, reading, writing}
 use Rattle.registers.specs.Model.{Model, Plain, GoesOn, Unspent, Undisturbed}
-use Rattle.registers.specs.Runs.{Event, began_read, began_write, accessed, Run, done, read, write, access, own_accesses, Within, EndsInTime}
+use Rattle.registers.specs.Runs.{Event, Run, done, read, write, access, own_accesses, Within, EndsInTime}
 use Rattle.registers.proofs.Callers as caller
 
 -- the operation has made k accesses

@@ -1,9 +1,8 @@
 -- When a call is accepted, and what follows from it.
-use Rattle.std.specs.Prelude.{◌≡◌, ℕ, ◌<◌, ◌≤◌, Bool, true, false, cond, ltb, is_some, Some, None, Ok, Err, Option}
+use Rattle.std.specs.Prelude.{◌≡◌, ℕ, ◌<◌, ◌≤◌, Bool, true, false, is_some, Some, None, Ok, Option}
 use Rattle.std.proofs.Common.{arith}
 use Rattle.std.proofs.lemmas.Bool.Decides.{nat_tests}
-use Rattle.registers.specs.declared.answers.Refusal.TheVariants.{NoSuchProcessor, Busy, OutOfRange, Idle}
-use Rattle.registers.specs.Operations.{checked, or_idle, under_way}
+use Rattle.registers.specs.Operations.{checked, under_way}
 use Rattle.registers.specs.Refusals.{refuse_read, refuse_write, refuse_step}
 
 pub accept_read : (p : ℕ) (busy : Bool) → refuse_read p busy ≡ None → (p < 16) × (busy ≡ false)

@@ -11,4 +11,5 @@ pub mod Accepted
 pub mod Slots
 pub mod Singles
 pub mod Turns
-pub mod WordRegisterLemmas
+pub mod WordLaw
+pub mod RangeLaw

@@ -1,5 +1,5 @@
 -- Operations of one access.
-use Rattle.std.specs.Prelude.{◌≡◌, ℕ, ◌≤◌, Some, None, Option, refl}
+use Rattle.std.specs.Prelude.{◌≤◌, Some, None, Option}
 use Rattle.std.proofs.Common.{arith}
 use Rattle.registers.specs.declared.answers.Limits.{Limits}
 use Rattle.registers.specs.declared.single.Single.{Single}

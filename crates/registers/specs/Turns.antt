@@ -1,9 +1,9 @@
 -- One processor's operation becomes another, or it begins, goes on or ends: what that makes of the meaning, for every
 -- register that keeps its processors' operations in a list.
-use Rattle.std.specs.Prelude.{◌≡◌, ℕ, ◌<◌, ◌≤◌, max, Bool, true, false, List, length, replicate, Some, None, Option, ◌≢◌, slice_set, refl}
+use Rattle.std.specs.Prelude.{◌≡◌, ℕ, ◌<◌, ◌≤◌, max, false, List, length, replicate, Some, None, Option, ◌≢◌, slice_set, refl}
 use Rattle.std.proofs.Common.{ap, ◌∙◌, arith, get_or-set_same, get_or-set_other}
-use Rattle.registers.specs.Meaning.{Operation, Doing, idle, busy, reading, writing, is_busy, asked}
-use Rattle.registers.specs.Model.{Undisturbed, New, ReadBegins, WriteBegins}
+use Rattle.registers.specs.Meaning.{Operation, idle, busy, reading, writing, is_busy, asked}
+use Rattle.registers.specs.Model.{Undisturbed, ReadBegins, WriteBegins}
 use Rattle.registers.specs.Operations.{at, doing_of, most_asked, meaning_of}
 use Rattle.registers.specs.Slots.{blank, most_at, most_set, most_within}
 

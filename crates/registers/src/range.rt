@@ -1,4 +1,5 @@
 ghost use Rattle.registers.specs.Range.{range_model};
+ghost use Rattle.registers.specs.RangeLaw.{range_plain};
 
 use crate::answers::{Became, Limits, Refusal};
 use crate::operations::{check_read, check_write, find_under_way};
@@ -14,6 +15,8 @@ impl HeadRegister for Range {
     const WRITE_ACCESSES: u32 = 1;
 
     ghost model = { range_model };
+
+    ghost plain = { range_plain };
 
     fn limits() -> Limits {
         Limits {

@@ -6,8 +6,12 @@ use Rattle.registers.specs.Accepted.{allowed_write}
 use Rattle.registers.specs.Turns.{still_asked}
 use Rattle.registers.proofs.word.WordHeadRegister.begin_write.Goals as goal
 
-pub invariant-of-self : goal.invariant-of-self
-invariant-of-self c =
+pub invariant_of-self : goal.invariant_of-self
+invariant_of-self c =
     let s = c.args.self.now in
     let small = (allowed_write 256 c.args.processor c.args.n (at s.state.operations c.args.processor) c.in_ok-check_write.ensures).3 in
-    (simp length-set s.sixteen, (s.held, (still_asked single_op s.state.operations c.args.processor 256 (Some (Write c.args.n)) s.asked small, tt)))
+    record {
+      sixteen = simp length-set s.sixteen;
+      held = s.held;
+      asked = still_asked single_op s.state.operations c.args.processor 256 (Some (Write c.args.n)) s.asked small;
+    }

@@ -1,5 +1,6 @@
-use Rattle.std.proofs.Common.{◌≡◌, ℕ, ◌<◌, ◌≤◌, max, Bool, true, false, cond, ltb, List, length, get_or, set, Some, None, Option, refl, ap, ◌∙◌, ⊎_elim, arith, get_or-set_other, get_or-set_same}
-use lib.ListN.{get_or-replicate}
+-- The range keeps the plain meaning.
+use Rattle.std.proofs.Common.{◌≡◌, ℕ, ◌<◌, ◌≤◌, max, Bool, true, false, cond, ltb, List, length, set, Some, None, Option, refl, ap, ◌∙◌, ⊎_elim, arith, get_or-set_other, get_or-set_same}
+use Rattle.std.proofs.lemmas.List.{get_or-replicate}
 use Rattle.std.proofs.lemmas.Bool.{cases_eq, ltb-true, ltb-false}
 use Rattle.registers.specs.declared.answers.Became.{Became}
 use Rattle.registers.specs.declared.single.Single.{Single}
@@ -7,35 +8,34 @@ use Rattle.registers.specs.declared.single.Single.TheVariants.{Read, Write}
 use Rattle.registers.specs.declared.range_state.Range.{Range}
 use Rattle.registers.specs.declared.range_state.RangeState.{RangeState}
 use Rattle.registers.specs.Meaning.{busy, is_busy, asked}
-use Rattle.registers.specs.Model.{Accesses, Undisturbed}
+use Rattle.registers.specs.Model.{Plain, Accesses, Undisturbed}
 use Rattle.registers.specs.Most.{greatest}
 use Rattle.registers.specs.Operations.{at, doing_of, most_asked}
-use Rattle.registers.specs.Range.{range_model, range_meaning, RangeSteps, own_of, own_after}
+use Rattle.registers.specs.Range.{range_model, range_meaning, RangeSteps, own_of}
 use Rattle.registers.specs.Single.{single_op}
 use Rattle.registers.specs.Accepted.{accept_read, accept_write, accept_step}
 use Rattle.registers.specs.Slots.{blank, most_at, most_set}
 use Rattle.registers.specs.Singles.{single_unspent}
 use Rattle.registers.specs.Turns.{not_busy, asked_at, now_doing, undisturbed, read_begins, write_begins, ended_ceiling}
-use Rattle.registers.proofs.range.RangeHeadRegister.TheImpl.Goals as goal
 
 -- one processor's own number is another, no smaller
 module _ (own own' : List ℕ) (p n : ℕ) (within : p < length own) (changed : own' ≡ set own p n) (up : own_of own p ≤ n) where
-  own-now : own_of own' p ≡ n
-  own-now = ap (λ ns. own_of ns p) changed ∙ get_or-set_same own p n 0 within
+  own_now : own_of own' p ≡ n
+  own_now = ap (λ ns. own_of ns p) changed ∙ get_or-set_same own p n 0 within
 
-  own-else : (q : ℕ) → (q ≡ p → ⊥) → own_of own' q ≡ own_of own q
-  own-else q ne = ap (λ ns. own_of ns q) changed ∙ get_or-set_other own p q n 0 ne
+  own_else : (q : ℕ) → (q ≡ p → ⊥) → own_of own' q ≡ own_of own q
+  own_else q ne = ap (λ ns. own_of ns q) changed ∙ get_or-set_other own p q n 0 ne
 
-  greatest-now : greatest own' ≡ max (greatest own) n
-  greatest-now =
+  greatest_now : greatest own' ≡ max (greatest own) n
+  greatest_now =
       let s : max (greatest own') (own_of own p) ≡ max (greatest own) n = rw changed (most_set 0 (λ v. v) own p n within) in
       let t = most_at 0 (λ v. v) refl own' p in
-      omega (arith, own-now)
+      omega (arith, own_now)
 
   risen : (q : ℕ) → own_of own q ≤ own_of own' q
   risen q = ⊎_elim
-      (λ e. let u : own_of own' q ≡ n = rw e own-now in let v : own_of own q ≤ n = rw e up in omega arith)
-      (λ ne. omega (arith, own-else q ne))
+      (λ e. let u : own_of own' q ≡ n = rw e own_now in let v : own_of own q ≤ n = rw e up in omega arith)
+      (λ ne. omega (arith, own_else q ne))
       (cases_eq q p)
 
 -- a write of n: no own number falls, the largest is as it was or n, and the processor's is n or above
@@ -43,7 +43,7 @@ written : (own own' : List ℕ) (p n : ℕ) → p < length own → (above : Bool
     → ((q : ℕ) → own_of own q ≤ own_of own' q) × (greatest own' ≡ max (greatest own) n) × (n ≤ own_of own' p)
 written own own' p n within true t changed =
     let up : own_of own p ≤ n = omega (arith, ltb-true (own_of own p) n t) in
-    (risen own own' p n within changed up, greatest-now own own' p n within changed up, omega (arith, own-now own own' p n within changed up))
+    (risen own own' p n within changed up, greatest_now own own' p n within changed up, omega (arith, own_now own own' p n within changed up))
 written own own' p n within false t changed =
     let down : n ≤ own_of own p = ltb-false (own_of own p) n t in
     let q = most_at 0 (λ v. v) refl own p in
@@ -72,13 +72,13 @@ step x v p b h (Some Read) is (said, e) =
     let changed : v.own ≡ set own p seen = ap (λ w. w.own) e in
     let within : p < length own = omega (arith, x.owners) in
     let up = risen own v.own p seen within changed (omega arith) in
-    let g = greatest-now own v.own p seen within changed (omega arith) in
+    let g = greatest_now own v.own p seen within changed (omega arith) in
     let q = most_at 0 (λ n. n) refl own p in
     let shared = x.owned in
     rw said (record {
       undisturbed = kept x v p None h ops up;
       same_ceiling = ceiling x v p None h ops up Read refl is (omega arith) (omega arith) (omega arith);
-      goes_on = rw is (record { ended = doing x v p None h ops up; not_below_floor = omega arith; not_above_ceiling = omega arith; kept = omega (arith, own-now own v.own p seen within changed (omega arith)) });
+      goes_on = rw is (record { ended = doing x v p None h ops up; not_below_floor = omega arith; not_above_ceiling = omega arith; kept = omega (arith, own_now own v.own p seen within changed (omega arith)) });
     })
 step x v p b h (Some (Write n)) is (said, e) =
     let own = x.state.own in
@@ -91,8 +91,8 @@ step x v p b h (Some (Write n)) is (said, e) =
       goes_on = rw is (record { ended = doing x v p None h ops up; kept = k });
     })
 
-pub plain-law : goal.plain-law
-plain-law = record {
+pub range_plain : Plain range_model
+range_plain = record {
   within_bound = λ x _. let h = x.held in let k = x.asked in omega arith;
   below_ceiling = λ x _ p _. omega (arith, most_at 0 (λ n. n) refl x.state.own p);
   unspent = λ x _ p h. single_unspent range_model.stated (omega arith) (omega arith) (at x.state.operations p);
