@@ -1,15 +1,15 @@
 -- The walk of a write goes by the bits of its number.
-use Rattle.std.proofs.Common.{◌≡◌, ℕ, zero, suc, ◌+◌, ◌-◌, ◌*◌, ◌/◌, ◌%◌, ◌^◌, ◌<◌, ◌≤◌, Bool, true, false, cond, eqb, ltb, ◌⊎◌, List, [], ◌∷◌, map, set, Some, None, Option, sym, refl, ap, ◌∙◌, subst, ap₂, inl, inr, ⊎_elim, add-one, arith}
-use native.Mathlib.Nat.{pow-succ'}
+use Rattle.std.proofs.Common.{◌≡◌, ℕ, zero, suc, ◌+◌, ◌-◌, ◌*◌, ◌/◌, ◌%◌, ◌^◌, ◌<◌, ◌≤◌, Bool, true, false, cond, eqb, ltb, List, [], ◌∷◌, map, set, Some, None, Option, sym, refl, ap, ◌∙◌, ap₂, ⊎_elim, add-one, arith}
+use Rattle.std.proofs.Math.Nat.{pow-succ'}
 use Rattle.std.proofs.lemmas.Nat.{shr-shr}
-use Rattle.std.proofs.lemmas.Bool.{cases_eq, cond_both, cond-true, cond-false, eqb-true, eqb-false, eq-eqb, ne_eqb}
+use Rattle.std.proofs.lemmas.Bool.{cases_eq, cond-true, cond-false, eq-eqb, ne_eqb}
 use Rattle.trees.specs.declared.walk.Walk.{Walk}
 use Rattle.trees.specs.declared.walk.Walk.TheVariants.{Reading, Looking, Setting}
 use Rattle.trees.specs.Bits.{bits, by_bits, passed, ahead, IsWrite, WritesByBits}
-use Rattle.trees.specs.Fits.{Fit, Looker, Setter}
+use Rattle.trees.specs.Fits.{Fit}
 use Rattle.trees.specs.Switches.{switch}
 use Rattle.trees.specs.Walks.{Access, looks, sets, next, switches_after, seen, goes_on, node, rise, fall, climb, descend}
-use Rattle.trees.proofs.Way.{node_up, top_node, rise_even, rise_odd, rise_top, climb_sets, climb_ends, fall_odd, fall_even, fall_end, descend_looks, descend_turns}
+use Rattle.trees.specs.Way.{node_up, top_node, rise_even, rise_odd, rise_top, climb_sets, climb_ends, fall_end, descend_looks, descend_turns}
 
 halved : (m l : ℕ) → m / 2 ^ suc l ≡ m / 2 ^ l / 2
 halved m l = sym (shr-shr m l 1 ∙ ap (λ k. m / 2 ^ k) (add-one l))

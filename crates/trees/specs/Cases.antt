@@ -1,6 +1,6 @@
 -- Worked cases of the tree and of the range, as runs of the very relations that their calls promise: each call accepted,
 -- each access with the switch that it looks at or sets.
-use Rattle.std.specs.Prelude.{◌≡◌, ℕ, Bool, true, false, List, [], ◌∷◌, set, replicate, Some, None, Ok, Option, slice_set}
+use Rattle.std.specs.Prelude.{◌≡◌, ℕ, Bool, true, false, List, [], ◌∷◌, replicate, Some, None, Ok, Option, slice_set}
 use Rattle.registers.specs.declared.answers.Became.{Became}
 use Rattle.registers.specs.declared.answers.Became.TheVariants.{Going, Read, Written}
 use Rattle.registers.specs.declared.range_state.RangeState.{RangeState}

@@ -4,3 +4,9 @@ pub mod Fits
 pub mod Tree
 pub mod Cases
 pub mod Bits
+pub mod Reach
+pub mod Way
+pub mod Goes
+pub mod Moves
+pub mod Held
+pub mod TreeLaw

@@ -1,6 +1,6 @@
 -- How an operation walks the tree, one switch an access. The way to the leaf of n goes by the bits of n - 1, highest first:
 -- the node l levels above the leaf is (n + 127) / 2 ^ l, and it is odd where the way leaves the switch above by its on side.
-use Rattle.std.specs.Prelude.{ℕ, zero, suc, ◌+◌, ◌-◌, ◌/◌, ◌%◌, ◌^◌, Bool, true, cond, List, set, Some, None, Option, ◌==◌, nat_lt, slice_set}
+use Rattle.std.specs.Prelude.{ℕ, zero, suc, ◌+◌, ◌-◌, ◌/◌, ◌%◌, ◌^◌, Bool, true, cond, List, Some, None, Option, ◌==◌, nat_lt, slice_set}
 use Rattle.registers.specs.declared.answers.Became.{Became}
 use Rattle.registers.specs.declared.answers.Became.TheVariants.{Going, Read, Written}
 use Rattle.registers.specs.Meaning.{Operation, reading, writing}

@@ -2,6 +2,7 @@ ghost use Rattle.std.specs.Prelude.{◌≡◌, ◌+◌, ◌<◌, ◌≤◌};
 ghost use Rattle.trees.specs.Fits.{Looker};
 ghost use Rattle.trees.specs.Switches.{switch};
 ghost use Rattle.trees.specs.Tree.{tree_model};
+ghost use Rattle.trees.specs.TreeLaw.{tree_plain};
 ghost use Rattle.trees.specs.Walks.{node as node_of, climb as climbed, descend as descended, goes_on, walk_answer, write_answer};
 ghost use Rattle.trees.specs.declared.walk.Walk.TheVariants.{Reading, Looking};
 
@@ -110,6 +111,8 @@ impl HeadRegister for Tree {
     const WRITE_ACCESSES: u32 = 7;
 
     ghost model = { tree_model };
+
+    ghost plain = { tree_plain };
 
     fn limits() -> Limits {
         Limits {

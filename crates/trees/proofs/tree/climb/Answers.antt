@@ -1,6 +1,6 @@
-use Rattle.std.proofs.Common.{◌≡◌, ◌%◌, ◌<◌, sym, ap, ◌∙◌, arith}
+use Rattle.std.proofs.Common.{◌≡◌, ◌%◌, sym, ap, ◌∙◌, arith}
 use Rattle.trees.specs.Walks.{node}
-use Rattle.trees.proofs.Way.{lowest, rise_even, rise_odd, rise_top, climb_sets, climb_ends}
+use Rattle.trees.specs.Way.{lowest, rise_even, rise_odd, rise_top, climb_sets, climb_ends}
 use Rattle.trees.proofs.tree.climb.Goals as goal
 use Rattle.trees.proofs.tree.climb.Goals.{then-loop-level-test+else-node-eq0, else-loop-level-test}
 

@@ -1,6 +1,6 @@
-use Rattle.std.proofs.Common.{◌≡◌, ◌-◌, ◌%◌, ◌<◌, sym, ap, ◌∙◌, arith}
+use Rattle.std.proofs.Common.{◌≡◌, ◌-◌, ◌%◌, sym, ap, ◌∙◌, arith}
 use Rattle.trees.specs.Walks.{node}
-use Rattle.trees.proofs.Way.{lowest, fall_odd, fall_even, fall_end, descend_looks, descend_turns}
+use Rattle.trees.specs.Way.{lowest, fall_odd, fall_even, fall_end, descend_looks, descend_turns}
 use Rattle.trees.proofs.tree.descend.Goals as goal
 use Rattle.trees.proofs.tree.descend.Goals.{then-loop-level-test+else-node-eq1, else-loop-level-test}
 

@@ -1,5 +1,5 @@
 use Rattle.std.proofs.Common.{arith}
-use Rattle.trees.proofs.Way.{node_index}
+use Rattle.trees.specs.Way.{node_index}
 use Rattle.trees.proofs.tree.look_on.Goals as goal
 
 pub bounds-switches-node : goal.bounds-switches-node

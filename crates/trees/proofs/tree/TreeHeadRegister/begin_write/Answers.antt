@@ -2,13 +2,12 @@ use Rattle.std.proofs.Common.{set, sym, subst, arith}
 use Rattle.registers.specs.Accepted.{allowed_write}
 use Rattle.registers.specs.Operations.{at}
 use Rattle.trees.specs.Walks.{descend}
-use Rattle.trees.proofs.Goes.{descend_busy}
 use Rattle.trees.proofs.Kept.{Kept, begin_keeps}
-use Rattle.trees.proofs.Moves.{starts_write, goes_fit, goes_asked}
+use Rattle.trees.specs.Moves.{starts_write, goes_fit, goes_asked}
 use Rattle.trees.proofs.tree.TreeHeadRegister.begin_write.Goals as goal
 
-pub invariant-of-self : goal.invariant-of-self
-invariant-of-self c =
+pub invariant_of-self : goal.invariant_of-self
+invariant_of-self c =
     let x = c.args.self.now in
     let p = c.args.processor in
     let n = c.args.n in

@@ -1,10 +1,11 @@
-use Rattle.std.proofs.Common.{◌≡◌, ℕ, ◌+◌, ◌<◌, true, set, Some, sym, ap, ◌∙◌, subst, subst₂, arith}
+use Rattle.std.proofs.Common.{◌+◌, true, set, Some, sym, ap, ◌∙◌, subst, subst₂, arith}
 use Rattle.registers.specs.Accepted.{found_under_way}
 use Rattle.registers.specs.Operations.{at}
 use Rattle.trees.specs.declared.walk.Walk.TheVariants.{Reading, Looking, Setting}
 use Rattle.trees.specs.Fits.{Setter}
-use Rattle.trees.proofs.Kept.{Kept, fit_at, reads_switch, setter_room, step_keeps}
-use Rattle.trees.proofs.Way.{node_index}
+use Rattle.trees.specs.Held.{fit_at, setter_room}
+use Rattle.trees.proofs.Kept.{Kept, reads_switch, step_keeps}
+use Rattle.trees.specs.Way.{node_index}
 use Rattle.trees.proofs.tree.TreeHeadRegister.step.Goals as goal
 
 pub read_on-became-requires : goal.read_on-became-requires
@@ -14,8 +15,8 @@ read_on-became-requires c =
     let found = found_under_way p (at x.state.operations p) _ c.in_ok-walk.ensures in
     reads_switch x.state.on c.in-Reading.node c.in-Reading.left (fit_at x p _ (found.1 ∙ ap Some c.in-Reading.is))
 
-pub invariant-of-self : goal.invariant-of-self
-invariant-of-self c =
+pub invariant_of-self : goal.invariant_of-self
+invariant_of-self c =
     let x = c.args.self.now in
     let p = c.args.processor in
     let found = found_under_way p (at x.state.operations p) _ c.in_ok-walk.ensures in
@@ -29,8 +30,8 @@ look_on-next-requires c =
     let found = found_under_way p (at x.state.operations p) _ c.in_ok-walk.ensures in
     fit_at x p _ (found.1 ∙ ap Some c.in-Looking.is)
 
-pub invariant-of-self-in-Looking : goal.invariant-of-self-in-Looking
-invariant-of-self-in-Looking c =
+pub invariant_of-self-in-Looking : goal.invariant_of-self-in-Looking
+invariant_of-self-in-Looking c =
     let x = c.args.self.now in
     let p = c.args.processor in
     let found = found_under_way p (at x.state.operations p) _ c.in_ok-walk.ensures in
@@ -53,8 +54,8 @@ bounds-self-at c =
     let f : Setter x.state.on c.in-Setting.n c.in-Setting.level c.in-Setting.done = fit_at x p _ (found.1 ∙ ap Some c.in-Setting.is) in
     omega (arith, c.set_on-at.ensures.0, node_index c.in-Setting.n f.low f.high (c.in-Setting.level + 1) (omega arith))
 
-pub invariant-of-self-in-Setting : goal.invariant-of-self-in-Setting
-invariant-of-self-in-Setting c =
+pub invariant_of-self-in-Setting : goal.invariant_of-self-in-Setting
+invariant_of-self-in-Setting c =
     let x = c.args.self.now in
     let p = c.args.processor in
     let found = found_under_way p (at x.state.operations p) _ c.in_ok-walk.ensures in

@@ -4,8 +4,8 @@ use Rattle.registers.proofs.Levels.{level_is}
 use Rattle.registers.specs.Turns.{idle_none}
 use Rattle.trees.specs.Tree.{tree_meaning, tree_floor}
 use Rattle.trees.specs.Walks.{walk_op}
-use Rattle.trees.proofs.Kept.{fit_of}
-use Rattle.trees.proofs.Moves.{floor_below}
+use Rattle.trees.specs.Held.{fit_of}
+use Rattle.trees.specs.Moves.{floor_below}
 use Rattle.trees.proofs.tree.TreeStrictHeadRegister.keeps_level.Goals as goal
 
 -- an idle processor's floor is what is shown, and no floor is above that

@@ -1,14 +1,14 @@
 -- How a write goes on after an access.
-use Rattle.std.proofs.Common.{◌≡◌, ℕ, zero, suc, ◌+◌, ◌-◌, ◌*◌, ◌/◌, ◌%◌, ◌^◌, ◌<◌, ◌≤◌, Bool, true, false, cond, eqb, ltb, ◌⊎◌, List, [], ◌∷◌, length, get_or, set, Some, None, Option, sym, refl, ap, ◌∙◌, subst, inl, inr, add-one, arith, get_or-set_same}
-use lib.Count.{ones, ones_step}
+use Rattle.std.proofs.Common.{◌≡◌, ℕ, zero, suc, ◌+◌, ◌-◌, ◌*◌, ◌%◌, ◌^◌, ◌<◌, ◌≤◌, Bool, true, eqb, ltb, List, Some, None, Option, sym, refl, ap, ◌∙◌, subst, add-one, arith}
+use Rattle.std.specs.Int.Count.{ones, ones_step}
 use Rattle.std.proofs.lemmas.Bool.{cond_both, eqb-true, eqb-false, ltb-true, ltb-false}
 use Rattle.trees.specs.declared.walk.Walk.{Walk}
 use Rattle.trees.specs.declared.walk.Walk.TheVariants.{Reading, Looking, Setting}
 use Rattle.trees.specs.Fits.{Looker, Setter}
 use Rattle.trees.specs.Switches.{switch, reach}
 use Rattle.trees.specs.Walks.{node, rise, fall, climb, descend}
-use Rattle.trees.proofs.Reach.{levels, bounds, rises, ◌⊑◌}
-use Rattle.trees.proofs.Way.{node_up, node_over, top_node, ones_node, rise_odd, climb_sets}
+use Rattle.trees.specs.Reach.{levels, bounds, rises, ◌⊑◌}
+use Rattle.trees.specs.Way.{node_up, node_over, top_node, rise_odd, climb_sets}
 
 -- a write of n, after d accesses, comes to an act that keeps what it needs, or it ends with n shown
 abbrev pub Goes : List Bool → ℕ → ℕ → Option Walk → Type 0

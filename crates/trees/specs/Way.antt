@@ -1,12 +1,12 @@
 -- The nodes on the way to the leaf of a number.
-use Rattle.std.proofs.Common.{◌≡◌, ℕ, zero, suc, ◌+◌, ◌-◌, ◌*◌, ◌/◌, ◌%◌, ◌^◌, ◌<◌, ◌≤◌, Bool, true, false, cond, eqb, ltb, List, Some, None, sym, refl, ap, ◌∙◌, mul-le-mul_right, add-one, arith}
-use lib.Bits.{bit_and}
+use Rattle.std.proofs.Common.{◌≡◌, ℕ, zero, suc, ◌+◌, ◌-◌, ◌*◌, ◌/◌, ◌%◌, ◌^◌, ◌<◌, ◌≤◌, cond, eqb, ltb, Some, None, sym, ap, ◌∙◌, mul-le-mul_right, add-one, arith}
+use Rattle.std.specs.Int.Bits.{bit_and}
 use Rattle.std.proofs.lemmas.Bool.{cond-true, cond-false, eq-eqb, ne_eqb, lt-ltb, le-ltb}
-use lib.Count.{ones, ones_step, ones-ones}
+use Rattle.std.specs.Int.Count.{ones, ones_step, ones-ones}
 use Rattle.std.proofs.lemmas.Nat.{pow_pos, pow_below, and_mask, shr-shr, shr_split, mod_below, div_below}
 use Rattle.trees.specs.Walks.{node, rise, fall, climb, descend}
 use Rattle.trees.specs.declared.walk.Walk.TheVariants.{Setting, Looking}
-use Rattle.trees.proofs.Reach.{levels}
+use Rattle.trees.specs.Reach.{levels}
 
 pub node_up : (n l : ℕ) → node n (suc l) ≡ node n l / 2
 node_up n l = sym (shr-shr (n + 127) l 1 ∙ ap (λ k. (n + 127) / 2 ^ k) (add-one l))

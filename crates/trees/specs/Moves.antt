@@ -1,22 +1,21 @@
 -- One access of a walk, or a begin: nothing that the tree keeps is lost.
-use Rattle.std.proofs.Common.{◌≡◌, ℕ, zero, suc, ◌+◌, ◌-◌, ◌*◌, ◌%◌, ◌^◌, ◌<◌, ◌≤◌, Bool, true, false, cond, ltb, ◌⊎◌, List, [], ◌∷◌, length, set, Some, None, Option, sym, refl, ap, ◌∙◌, subst, inl, inr, ⊎_elim, mul-le-mul_left, add-one, arith, length-set, get_or-set_other, get_or-set_same, pow_mono}
+use Rattle.std.proofs.Common.{◌≡◌, ℕ, zero, suc, ◌+◌, ◌-◌, ◌*◌, ◌%◌, ◌^◌, ◌<◌, ◌≤◌, Bool, true, false, ltb, ◌⊎◌, List, [], ◌∷◌, length, set, Some, None, Option, sym, refl, ap, ◌∙◌, subst, inl, inr, ⊎_elim, mul-le-mul_left, add-one, arith, length-set, get_or-set_other, get_or-set_same, pow_mono}
 use mathlib.Core.HLevel.{Unit-prop}
-use mathlib.Core.Logic.{∥∥₁_elim}
-use native.Mathlib.Nat.{ℕ_set}
-use native.Mathlib.Bridge.{le_prop}
-use lib.Count.{ones, ones-ones}
+use Rattle.std.proofs.Math.Nat.{ℕ_set}
+use Rattle.std.proofs.Math.Bridge.{le_prop}
+use Rattle.std.specs.Int.Count.{ones, ones-ones}
 use Rattle.std.proofs.lemmas.Bool.{cond_both, cases_eq, cases_order, ltb-true}
 use Rattle.registers.specs.Meaning.{asked, busy, writing}
 use Rattle.registers.specs.Operations.{doing_of}
 use Rattle.trees.specs.declared.walk.Walk.{Walk}
 use Rattle.trees.specs.declared.walk.Walk.TheVariants.{Reading, Looking, Setting}
-use Rattle.trees.specs.Fits.{On, Capped, Reader, Looker, Setter, Fit}
+use Rattle.trees.specs.Fits.{Capped, Reader, Looker, Setter, Fit}
 use Rattle.trees.specs.Switches.{switch, child, reach, shown}
 use Rattle.trees.specs.Tree.{tree_floor}
 use Rattle.trees.specs.Walks.{node, climb, descend, next, switches_after, seen, goes_on, walk_op}
-use Rattle.trees.proofs.Reach.{levels, bounds, rises, below, ◌⊑◌}
-use Rattle.trees.proofs.Way.{node_up, node_over, node_deep, node_index, ones_node, top_node}
-use Rattle.trees.proofs.Goes.{Goes, Busy, stops, up_odd, spent_up, climbs, descends}
+use Rattle.trees.specs.Reach.{levels, bounds, rises, below, ◌⊑◌}
+use Rattle.trees.specs.Way.{node_up, node_over, node_deep, node_index, top_node}
+use Rattle.trees.specs.Goes.{Goes, Busy, stops, up_odd, spent_up, climbs, descends}
 
 pub fit_prop : (t : List Bool) (o : Option Walk) → IsProp (Fit t o)
 fit_prop t None = Unit-prop

@@ -1,8 +1,8 @@
 -- The leaf that a read running alone reaches.
-use Rattle.std.proofs.Common.{◌≡◌, ℕ, zero, suc, ◌+◌, ◌-◌, ◌*◌, ◌/◌, ◌%◌, ◌^◌, ◌<◌, ◌≤◌, Bool, true, false, cond, List, sym, refl, ap, ◌∙◌, ⊎_elim, mul-le-mul_right, mul_assoc, mul_comm, add-mul, one-mul, mul_left_comm, arith}
-use native.Mathlib.Nat.{pow-succ'}
+use Rattle.std.proofs.Common.{◌≡◌, ℕ, zero, suc, ◌+◌, ◌*◌, ◌^◌, ◌<◌, ◌≤◌, Bool, true, false, cond, List, refl, ap, ◌∙◌, ⊎_elim, mul-le-mul_right, mul_assoc, add-mul, one-mul, mul_left_comm, arith}
+use Rattle.std.proofs.Math.Nat.{pow-succ'}
 use Rattle.std.proofs.lemmas.Bool.{cases_order, cases_eq}
-use Rattle.trees.specs.Fits.{On, Capped}
+use Rattle.trees.specs.Fits.{Capped}
 use Rattle.trees.specs.Switches.{switch, child, reach}
 
 -- the nodes at two neighbouring levels

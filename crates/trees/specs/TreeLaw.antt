@@ -1,9 +1,10 @@
-use Rattle.std.proofs.Common.{◌≡◌, ℕ, ◌+◌, ◌-◌, ◌<◌, ◌≤◌, Bool, true, false, cond, ltb, List, set, Some, None, Option, sym, refl, ap, ◌∙◌, subst, ⊎_elim, arith}
+-- The tree keeps the plain meaning.
+use Rattle.std.proofs.Common.{◌≡◌, ℕ, ◌+◌, ◌-◌, ◌<◌, ◌≤◌, Bool, true, false, cond, ltb, List, set, Some, None, Option, refl, ap, ◌∙◌, ⊎_elim, arith}
 use Rattle.std.proofs.lemmas.Bool.{cases_eq, ltb-true, ltb-false}
 use Rattle.registers.specs.declared.answers.Became.{Became}
 use Rattle.registers.specs.declared.answers.Became.TheVariants.{Going, Read}
 use Rattle.registers.specs.Meaning.{busy, reading, writing, is_busy}
-use Rattle.registers.specs.Model.{Accesses, GoesOn, Undisturbed, Unspent}
+use Rattle.registers.specs.Model.{Plain, Accesses, GoesOn, Undisturbed, Unspent}
 use Rattle.registers.specs.Operations.{at, doing_of}
 use Rattle.registers.specs.Accepted.{accept_read, accept_write, accept_step}
 use Rattle.registers.specs.Slots.{blank}
@@ -15,22 +16,21 @@ use Rattle.trees.specs.declared.tree_state.TreeState.{TreeState}
 use Rattle.trees.specs.Fits.{ceiling, Reader, Fit}
 use Rattle.trees.specs.Switches.{switch, child, reach, shown}
 use Rattle.trees.specs.Tree.{tree_new, tree_model, tree_meaning, tree_floor, TreeSteps, tree_stepped}
-use Rattle.trees.specs.Walks.{descend, climb, next, switches_after, seen, goes_on, walk_answer, write_answer, walk_op}
-use Rattle.trees.proofs.Goes.{Goes, descend_busy}
-use Rattle.trees.proofs.Kept.{fit_of, fit_at, same_ceiling, stepped, new_shown, looker_room, setter_room}
-use Rattle.trees.proofs.Moves.{After, floor_below, floor_up, looks_on, sets_on, starts_write, goes_writing, goes_floor}
-use Rattle.trees.proofs.Reach.{◌⊑◌}
-use Rattle.trees.proofs.tree.TreeHeadRegister.TheImpl.Goals as goal
+use Rattle.trees.specs.Walks.{descend, next, switches_after, seen, goes_on, walk_answer, write_answer, walk_op}
+use Rattle.trees.specs.Goes.{Goes, descend_busy}
+use Rattle.trees.specs.Held.{fit_of, fit_at, same_ceiling, stepped, new_shown, looker_room, setter_room}
+use Rattle.trees.specs.Moves.{After, floor_below, floor_up, looks_on, sets_on, starts_write, goes_writing, goes_floor}
+use Rattle.trees.specs.Reach.{◌⊑◌}
 
 -- processor p of x is at o, and the switches have not gone off
 module _ (x : Tree) (v : TreeState) (p : ℕ) (o : Option Walk) (h : p < 16) (ops : v.operations ≡ set x.state.operations p o) (up : x.state.on ⊑ v.on) where
-  now-floor : tree_floor v.on (at v.operations p) ≡ tree_floor v.on o
-  now-floor = ap (tree_floor v.on) (now_at walk_op x.state.operations v.operations p o x.sixteen h ops)
+  now_floor : tree_floor v.on (at v.operations p) ≡ tree_floor v.on o
+  now_floor = ap (tree_floor v.on) (now_at walk_op x.state.operations v.operations p o x.sixteen h ops)
 
   floors : tree_floor x.state.on (at x.state.operations p) ≤ tree_floor v.on o
       → (q : ℕ) → q < 16 → tree_floor x.state.on (at x.state.operations q) ≤ tree_floor v.on (at v.operations q)
   floors own q _ = ⊎_elim
-      (λ e. rw e (omega (arith, now-floor)))
+      (λ e. rw e (omega (arith, now_floor)))
       (λ ne. omega (arith, ap (tree_floor v.on) (else_at walk_op x.state.operations v.operations p o x.sixteen h ops q ne), floor_up x.state.on v.on up (at x.state.operations q)))
       (cases_eq q p)
 
@@ -88,7 +88,7 @@ module _ (x : Tree) (v : TreeState) (p : ℕ) (h : p < 16) (w : Walk) (is : at x
   doing = now_doing walk_op x.state.operations v.operations p after x.sixteen h ops
 
   floor : (tree_meaning v).floor p ≡ tree_floor v.on after
-  floor = now-floor x v p after h ops up
+  floor = now_floor x v p after h ops up
 
 goes : (x : Tree) (v : TreeState) (p : ℕ) (h : p < 16) (w : Walk) (is : at x.state.operations p ≡ Some w) (e : v ≡ tree_stepped x.state p w)
     → GoesOn p (tree_meaning x.state) (tree_meaning v) (busy (walk_op w)) (walk_answer w (seen (next w) x.state.on))
@@ -118,8 +118,8 @@ spare t (Some (Reading k l)) f = omega (arith, f.some)
 spare t (Some (Looking n l d)) f = looker_room n l d f
 spare t (Some (Setting n l d)) f = setter_room t n l d f
 
-pub plain-law : goal.plain-law
-plain-law = record {
+pub tree_plain : Plain tree_model
+tree_plain = record {
   within_bound = λ x _. x.bounded;
   below_ceiling = λ x _ p _. omega (arith, floor_below x.state.on (at x.state.operations p) (fit_of x p));
   unspent = λ x _ p h. spare x.state.on (at x.state.operations p) (fit_of x p);
