@@ -1,14 +1,9 @@
-use Rattle.std.proofs.Common.{Some, arith, length-set}
-use Rattle.registers.specs.declared.single.Single.TheVariants.{Read}
+use Rattle.std.proofs.Common.{arith}
 use Rattle.registers.specs.Single.{single_op}
 use Rattle.registers.specs.Turns.{still_asked}
 use Rattle.registers.proofs.word.WordHeadRegister.begin_read.Goals as goal
 
-pub invariant_of-self : goal.invariant_of-self
-invariant_of-self c =
+pub invariant_of-self-clause-asked : goal.invariant_of-self-clause-asked
+invariant_of-self-clause-asked c =
     let s = c.args.self.now in
-    record {
-      sixteen = simp length-set s.sixteen;
-      held = s.held;
-      asked = still_asked single_op s.state.operations c.args.processor 256 (Some Read) s.asked (omega arith);
-    }
+    still_asked single_op s.state.operations c.args.processor 256 _ s.asked (omega arith)
