@@ -1,4 +1,4 @@
--- The ghost fields of a tree after a begin and after an access, and what they give of its parts.
+-- The ghost fields of a tree after a begin and after an access, and of a new tree.
 use Rattle.std.proofs.Common.{◌≡◌, ℕ, ◌^◌, ◌<◌, ◌≤◌, max, Bool, false, List, length, get_or, set, replicate, Some, None, Option, sym, refl, ◌∙◌, subst, mul-le-mul_left, arith, length-set}
 use Rattle.std.proofs.lemmas.Nat.{pow_below}
 use Rattle.std.proofs.lemmas.Bool.{both_ways}
@@ -43,7 +43,7 @@ module _ (x : Tree) (p : ℕ) (h : p < 16) where
   abbrev ops : List (Option Walk)
   ops = x.state.operations
 
-  -- a begin raises it to what is asked for
+  -- a begin raises the ceiling to what is asked for
   pub begun_ceiling : (q : Option Walk) → at ops p ≡ None → ceiling t (set ops p q) ≡ max (ceiling t ops) (asked (doing_of walk_op q))
   begun_ceiling q free = let m = rw free at (asks walk_op ops (set ops p q) p q x.sixteen h refl) in omega arith
 
