@@ -2,7 +2,7 @@
 // numbers that was written. A read looks at seven of them, a write looks at some and sets some.
 //
 // `walk` has what an operation is about to do, `tree_state` what the tree holds, `tree` the register, and `cases` the
-// worked cases. Begin in `specs/Switches.antt` and `specs/Walks.antt`; docs/TREE.md tells how the proof goes.
+// worked cases. Begin in `specs/Switches.antt` and `specs/Walks.antt`; `specs/TreeLaw.antt` has the law.
 #![tactic(auto)]
 
 pub mod cases;
