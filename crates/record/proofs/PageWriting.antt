@@ -1,4 +1,4 @@
--- What `write-jobs` is, case by case.
+-- What `write_jobs_gives` is, case by case.
 use Rattle.std.proofs.Common.{◌≡◌, ℕ, ◌<◌, ◌≤◌, true, false, List, length, Ok, Err, ◌∙◌, arith, length-append}
 use Rattle.std.proofs.lemmas.Bool.{cond-true, cond-false, and_from, and_left, and_right, le-leb, lt-leb}
 use Rattle.jobs.specs.JobType.{Kind}

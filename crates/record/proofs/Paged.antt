@@ -1,4 +1,4 @@
--- Laws of `read-page`.
+-- Laws of `read_page_gives`.
 use Rattle.std.proofs.Common.{◌≡◌, ℕ, List, Ok, Err, Result, sym, refl, ap, ◌∙◌}
 use Rattle.text.specs.Whole.{whole, placed}
 use Rattle.text.specs.declared.fault.Fault.{Fault}

@@ -1,4 +1,4 @@
--- Laws of `read-entries`.
+-- Laws of `read_entries`.
 use Rattle.std.proofs.Common.{◌≡◌, ℕ, zero, suc, ◌+◌, ◌-◌, ◌<◌, ◌≤◌, List, [], ◌∷◌, ◌++◌, length, Ok, Err, Result, sym, refl, ap, ◌∙◌, append_assoc, append-nil, arith}
 use Rattle.jobs.specs.JobType.{Kind}
 use Rattle.text.specs.Pairs.{Step, fault}
