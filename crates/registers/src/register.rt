@@ -36,6 +36,7 @@ pub trait HeadRegister: Sized {
     fn step(&mut self, processor: u32) -> Result<Became, Refusal>
         ensures { Steps model self.old processor result self.new };
 
+    // what every register proves of its model: a law by its place, below the last function
     ghost plain: { Plain model };
 }
 
