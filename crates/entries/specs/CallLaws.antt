@@ -1,16 +1,17 @@
--- Each call has one word, of plain bytes.
-use Rattle.std.specs.Prelude.{◌≡◌, ℕ, true, List, Some, codes, refl}
+-- Each call has a word of its own, of plain bytes.
+use Rattle.std.specs.Prelude.{◌≡◌, true, Some, refl}
 use Rattle.text.specs.Bytes.{plain_text}
 use Rattle.text.specs.Pairs.{Spells, word}
-use Rattle.text.proofs.ClosedWords.{one_word, no_word}
+use Rattle.text.specs.Spelled.{Words}
+use Rattle.text.specs.SpelledLaws.{spells}
 use Rattle.entries.specs.declared.entry.Call.{Call}
 use Rattle.entries.specs.declared.entry.Call.TheVariants.{Put, Take, Steal}
-use Rattle.entries.specs.Calls.{call_text, call_of}
+use Rattle.entries.specs.Calls.{calls, call_text, call_of}
 
-call_there : (x : Call) → call_of (call_text x) ≡ Some x
-call_there Put = refl
-call_there Take = refl
-call_there Steal = refl
+call_own : (x : Call) → call_of (call_text x) ≡ Some x
+call_own Put = refl
+call_own Take = refl
+call_own Steal = refl
 
 call_whole : (x : Call) → word (call_text x) ≡ call_text x
 call_whole Put = refl
@@ -22,8 +23,8 @@ call_plain Put = refl
 call_plain Take = refl
 call_plain Steal = refl
 
-call_back : (w : List ℕ) (x : Call) → call_of w ≡ Some x → w ≡ call_text x
-call_back w x e = one_word w (codes "put") Put x _ call_text refl (one_word w (codes "take") Take x _ call_text refl (one_word w (codes "steal") Steal x _ call_text refl (no_word w x call_text))) e
+pub call_words : Words calls call_text
+call_words = record { own = call_own; whole = call_whole; plain = call_plain }
 
 pub call_laws : Spells call_of call_text
-call_laws = record { there = call_there; back = call_back; whole = call_whole; plain = call_plain }
+call_laws = spells call_words

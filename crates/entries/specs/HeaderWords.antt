@@ -1,6 +1,6 @@
 -- The words of a header: registers and job types, each a closed list.
-use Rattle.std.specs.Prelude.{ℕ, cond, List, Some, None, codes, Option}
-use Rattle.std.specs.Str.{bytes_eq}
+use Rattle.std.specs.Prelude.{ℕ, List, [], ◌∷◌, codes, Option}
+use Rattle.text.specs.Spelled.{spelled}
 use Rattle.jobs.specs.JobType.{Kind, kind}
 use Rattle.jobs.specs.Check.{check_names, check_of}
 use Rattle.jobs.specs.Span.{span_names, span_of}
@@ -14,8 +14,11 @@ register_text Word = codes "word"
 register_text Tree = codes "tree"
 register_text Range = codes "range"
 
+abbrev pub registers : List Register
+registers = Word ∷ Tree ∷ Range ∷ []
+
 abbrev pub register_of : List ℕ → Option Register
-register_of w = cond (bytes_eq w (codes "word")) (Some Word) (cond (bytes_eq w (codes "tree")) (Some Tree) (cond (bytes_eq w (codes "range")) (Some Range) None))
+register_of = spelled registers register_text
 
 -- the job type that a word of the header stands for, and what pages know of it
 abbrev pub job_kind : JobKind → Kind
@@ -26,5 +29,8 @@ abbrev pub job_text : JobKind → List ℕ
 job_text Check = codes "check"
 job_text Span = codes "span"
 
+abbrev pub job_kinds : List JobKind
+job_kinds = Check ∷ Span ∷ []
+
 abbrev pub job_of : List ℕ → Option JobKind
-job_of w = cond (bytes_eq w (codes "check")) (Some Check) (cond (bytes_eq w (codes "span")) (Some Span) None)
+job_of = spelled job_kinds job_text

@@ -10,7 +10,8 @@ pub enum Call {
 }
 
 // What is known of one operation. A stamp is the number of an accepted call, from 1 to 65,535;
-// each number is 0 until it is set.
+// each number is 0 until it is set. It is no `Option`, since a page shows 0 there: `None` and `Some(0)` would be
+// two entries for one line, and what is written would not be what is read.
 #[derive(Clone, Copy, PartialEq, Eq, Debug)]
 pub struct Entry {
     pub processor: u32,

@@ -7,4 +7,5 @@
 
 pub mod entry;
 pub mod header;
+pub mod page;
 pub mod words;

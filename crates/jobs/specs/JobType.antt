@@ -1,5 +1,8 @@
 -- What a job type is: three names, and jobs that are two numbers each.
-use Rattle.std.specs.Prelude.{◌≡◌, ℕ, ◌^◌, ◌<◌, Bool, true, ◌&&◌, List, [], ◌∷◌, length, is_some, Some, Option, nat_le}
+use Rattle.std.specs.Prelude.{◌≡◌, ℕ, ◌^◌, ◌<◌, Bool, true, ◌&&◌, List, [], ◌∷◌, length, is_some, Some, Option, Result, nat_le}
+use Rattle.std.specs.Option.{ok_or}
+use Rattle.jobs.specs.declared.job.NoJob.{NoJob}
+use Rattle.jobs.specs.declared.job.Words.{Words}
 
 -- the small letters, a to z
 abbrev pub letters : List ℕ → Bool
@@ -15,6 +18,16 @@ pub record Names : Type 0 where
   pub name : List ℕ
   pub key1 : List ℕ
   pub key2 : List ℕ
+
+-- the words of the code are these names
+pub record Named (words : Words) (names : Names) : Type 0 where
+  pub name : words.name.now ≡ names.name
+  pub key1 : words.first_key.now ≡ names.key1
+  pub key2 : words.second_key.now ≡ names.key2
+
+-- a conversion of two numbers gives the job that they make, or says that they make none
+abbrev pub Converts : {J : Type 0} → (ℕ → ℕ → Option J) → ℕ × ℕ → Result J NoJob → Type 0
+Converts made v r = r ≡ ok_or (made v.0 v.1) (record {})
 
 -- what every job type owes of its names, of the numbers of a job, and of the job that numbers make
 pub record Laws {J : Type 0} (names : Names) (pair : J → ℕ × ℕ) (made : ℕ → ℕ → Option J) : Type 0 where

@@ -1,8 +1,9 @@
 // The check of one igniter line.
+ghost use Rattle.jobs.specs.JobType.{Converts};
 ghost use Rattle.jobs.specs.Check.{check_names, check_pair, check_of};
 ghost use Rattle.jobs.specs.CheckLaws.{check_laws};
 
-use crate::job::Job;
+use crate::job::{Job, NoJob, Words};
 
 // `line` is 1 to 1,024; `limit`, the largest resistance that passes, is 1 to 999 tenths of an ohm.
 #[derive(Clone, Copy)]
@@ -11,13 +12,21 @@ pub struct Check {
     pub limit: u32,
 }
 
+impl TryFrom<(u32, u32)> for Check {
+    type Error = NoJob;
+
+    ghost try_from_gives = { Converts check_of };
+
+    fn try_from((line, limit): (u32, u32)) -> Result<Check, NoJob> {
+        if (1..=1024).contains(&line) && (1..=999).contains(&limit) {
+            Ok(Check { line, limit })
+        } else {
+            Err(NoJob)
+        }
+    }
+}
+
 impl Job for Check {
-    const NAME: &'static str = "check";
-
-    const FIRST_KEY: &'static str = "line";
-
-    const SECOND_KEY: &'static str = "limit";
-
     ghost names = { check_names };
 
     ghost pair = { check_pair };
@@ -26,30 +35,17 @@ impl Job for Check {
 
     ghost laws = { check_laws };
 
-    fn name_bytes() -> &'static [u8] {
-        Self::NAME.as_bytes()
-    }
+    ghost converts = { λ v r e. e };
 
-    fn first_key_bytes() -> &'static [u8] {
-        Self::FIRST_KEY.as_bytes()
-    }
-
-    fn second_key_bytes() -> &'static [u8] {
-        Self::SECOND_KEY.as_bytes()
+    fn words() -> Words {
+        Words {
+            name: b"check",
+            first_key: b"line",
+            second_key: b"limit",
+        }
     }
 
     fn numbers(&self) -> (u32, u32) {
         (self.line, self.limit)
-    }
-
-    fn from_numbers(first: u32, second: u32) -> Option<Self> {
-        if 1 <= first && first <= 1024 && 1 <= second && second <= 999 {
-            Some(Check {
-                line: first,
-                limit: second,
-            })
-        } else {
-            None
-        }
     }
 }

@@ -1,8 +1,9 @@
 // A stretch of the score to be rendered.
+ghost use Rattle.jobs.specs.JobType.{Converts};
 ghost use Rattle.jobs.specs.Span.{span_names, span_pair, span_of};
 ghost use Rattle.jobs.specs.SpanLaws.{span_laws};
 
-use crate::job::Job;
+use crate::job::{Job, NoJob, Words};
 
 // `first` and `last` are show ticks, 0 to 4,000,000, with `last` not below `first`.
 #[derive(Clone, Copy)]
@@ -11,13 +12,21 @@ pub struct Span {
     pub last: u32,
 }
 
+impl TryFrom<(u32, u32)> for Span {
+    type Error = NoJob;
+
+    ghost try_from_gives = { Converts span_of };
+
+    fn try_from((first, last): (u32, u32)) -> Result<Span, NoJob> {
+        if first <= last && last <= 4_000_000 {
+            Ok(Span { first, last })
+        } else {
+            Err(NoJob)
+        }
+    }
+}
+
 impl Job for Span {
-    const NAME: &'static str = "span";
-
-    const FIRST_KEY: &'static str = "first";
-
-    const SECOND_KEY: &'static str = "last";
-
     ghost names = { span_names };
 
     ghost pair = { span_pair };
@@ -26,30 +35,17 @@ impl Job for Span {
 
     ghost laws = { span_laws };
 
-    fn name_bytes() -> &'static [u8] {
-        Self::NAME.as_bytes()
-    }
+    ghost converts = { λ v r e. e };
 
-    fn first_key_bytes() -> &'static [u8] {
-        Self::FIRST_KEY.as_bytes()
-    }
-
-    fn second_key_bytes() -> &'static [u8] {
-        Self::SECOND_KEY.as_bytes()
+    fn words() -> Words {
+        Words {
+            name: b"span",
+            first_key: b"first",
+            second_key: b"last",
+        }
     }
 
     fn numbers(&self) -> (u32, u32) {
         (self.first, self.last)
-    }
-
-    fn from_numbers(first: u32, second: u32) -> Option<Self> {
-        if first <= second && second <= 4000000 {
-            Some(Span {
-                first,
-                last: second,
-            })
-        } else {
-            None
-        }
     }
 }

@@ -4,7 +4,7 @@ use Rattle.std.proofs.lemmas.Nat.{mul-le, le-div, div_below}
 use Rattle.lanes.specs.Scale.{column}
 use Rattle.lanes.specs.declared.scale.Scale.{Scale}
 
-module _ (scale : Scale) (some : 1 ≤ scale.last) where
+module _ (scale : Scale) where
   pub column_mono : (s t : ℕ) → s ≤ t → column scale s ≤ column scale t
   unfolding column
   column_mono s t h =

@@ -1,12 +1,13 @@
--- A loop from p up to n: what is left of the count.
-use Rattle.std.proofs.Common.{◌≡◌, ℕ, suc, ◌+◌, ◌-◌, ◌<◌, ◌≤◌, [], ◌∷◌, ap, arith}
-use Rattle.std.specs.List.{range_with_len}
+-- One number more of a loop that counts from 0.
+use Rattle.std.proofs.Common.{◌≡◌, ℕ, ◌+◌, List, [], ◌∷◌, ◌++◌, map, sym, ap, ◌∙◌, append-nil, arith}
+use Rattle.std.proofs.lemmas.List.Concat.{flat_map-append}
+use Rattle.std.proofs.lemmas.List.FromFn.{map-range_with_len_more}
+use Rattle.std.proofs.lemmas.List.Folds.{flat_map-map}
+use Rattle.std.specs.List.{range_with_len, flat_map}
 
-pub count_none : (n : ℕ) → range_with_len 0 (n - 0) ≡ range_with_len 0 n
-count_none n = let e : n - 0 ≡ n = omega arith in ap (range_with_len 0) e
-
-pub count_more : (p n : ℕ) → p < n → range_with_len p (n - p) ≡ p ∷ range_with_len (p + 1) (n - (p + 1))
-count_more p n h = let e : n - p ≡ suc (n - (p + 1)) = omega arith in ap (range_with_len p) e
-
-pub count_all : (p n : ℕ) → n ≤ p → range_with_len p (n - p) ≡ []
-count_all p n h = let e : n - p ≡ 0 = omega arith in ap (range_with_len p) e
+pub flat_map-range_more : (f : ℕ → List ℕ) (n : ℕ) → flat_map f (range_with_len 0 (n + 1)) ≡ flat_map f (range_with_len 0 n) ++ f n
+flat_map-range_more f n =
+    sym (flat_map-map (λ l. l) f (range_with_len 0 (n + 1)))
+    ∙ ap (flat_map (λ l. l)) (map-range_with_len_more f 0 n n (omega arith))
+    ∙ flat_map-append (λ l. l) (map f (range_with_len 0 n)) (f n ∷ [])
+    ∙ simp (append-nil, flat_map-map)

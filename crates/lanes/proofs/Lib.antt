@@ -1,7 +1,6 @@
 pub mod Counts
 pub mod Paddings
 pub mod Stamps
-pub mod Cells
 pub mod Columns
 pub mod Told
 pub mod Reports

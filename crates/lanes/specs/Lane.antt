@@ -1,6 +1,7 @@
 -- The lane of a processor: a byte for each column.
-use Rattle.std.specs.Prelude.{ℕ, ◌-◌, cond, ◌&&◌, List, [], ◌∷◌, ◌++◌, map, length, replicate, codes, decimal, ◌==◌}
-use Rattle.std.specs.List.{range_with_len}
+use Rattle.std.specs.Prelude.{ℕ, ◌-◌, cond, ◌&&◌, Option, List, [], ◌∷◌, ◌++◌, map, length, replicate, codes, decimal, ◌==◌}
+use Rattle.std.specs.List.{find, range_with_len}
+use Rattle.std.specs.Option.{option_map_or}
 use Rattle.entries.specs.declared.entry.Call.{Call}
 use Rattle.entries.specs.declared.entry.Call.TheVariants.{Put, Take, Steal}
 use Rattle.entries.specs.declared.entry.Entry.{Entry}
@@ -24,10 +25,13 @@ small Steal = 115
 abbrev pub drawn : Scale → Entry → ℕ → ℕ
 drawn scale e x = cond (x == column scale e.from) (capital e.call) (cond (e.to == 0 && x == scale.columns - 1) 62 (small e.call))
 
--- the first operation of the processor that covers the column, or `.` where none does
+-- the first operation of the processor that covers the column
+abbrev pub first_over : Scale → ℕ → List Entry → ℕ → Option Entry
+first_over scale p es x = find (λ e. e.processor == p && covers scale e x) es
+
+-- how that one looks, or `.` where there is none
 abbrev pub cell : Scale → ℕ → List Entry → ℕ → ℕ
-cell scale p [] x = 46
-cell scale p (e ∷ es) x = cond (e.processor == p && covers scale e x) (drawn scale e x) (cell scale p es x)
+cell scale p es x = option_map_or (λ e. drawn scale e x) (first_over scale p es x) 46
 
 unfoldable pub cells : Scale → List Entry → ℕ → List ℕ
 cells scale es p = map (cell scale p es) (range_with_len 0 scale.columns)

@@ -5,15 +5,11 @@ use Rattle.jobs.specs.JobType.{Kind}
 use Rattle.text.specs.Written.{word_pair, number_pair}
 use Rattle.entries.specs.Calls.{call_text}
 use Rattle.entries.specs.declared.entry.Entry.{Entry}
-use Rattle.record.specs.Lines.{is_put, shows}
+use Rattle.record.specs.Lines.{is_put, job_pairs}
 
 -- an operation that is not over is unfinished, and one that looked for a task and got none is empty
 abbrev pub ending : Entry → List ℕ
 ending e = cond (e.to == 0) (codes " unfinished\n") (cond (not (is_put e.call) && e.task == 0) (codes " empty\n") (codes "\n"))
-
--- the numbers of the job, if it is shown
-unfoldable pub job_fields : Kind → Entry → List ℕ
-job_fields kind e = cond (shows e) (number_pair kind.names.key1 e.first 32 ++ number_pair kind.names.key2 e.second 32) []
 
 -- the line of the operation that has this number
 unfoldable pub operation_text : Kind → ℕ → Entry → List ℕ
@@ -22,7 +18,7 @@ operation_text kind op e =
     ++ (number_pair (codes "op") op 32
     ++ (word_pair (codes "call") (call_text e.call) 32
     ++ (number_pair (codes "task") e.task 32
-    ++ (job_fields kind e
+    ++ (job_pairs kind e 32
     ++ (number_pair (codes "from") e.from 32
     ++ (number_pair (codes "mark") e.mark 32
     ++ (codes "to=" ++ (decimal e.to ++ ending e))))))))

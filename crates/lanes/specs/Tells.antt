@@ -1,18 +1,13 @@
 -- What the lanes tell of the entries that they are drawn from.
-use Rattle.std.specs.Prelude.{◌≡◌, ℕ, ◌+◌, ◌<◌, ◌≤◌, true, ◌⊎◌, List, [], ◌∷◌, length, ◌≢◌}
+use Rattle.std.specs.Prelude.{◌≡◌, ℕ, ◌+◌, ◌<◌, ◌≤◌, true, List, All, Contains, length, ◌≢◌}
 use Rattle.entries.specs.declared.entry.Entry.{Entry}
 use Rattle.lanes.specs.Lane.{cell, lane_text}
 use Rattle.lanes.specs.Scale.{scale_of, end_of, covers}
 use Rattle.lanes.specs.declared.scale.Scale.{Scale}
 
--- one of the entries
-abbrev pub Among : Entry → List Entry → Type 0
-Among e [] = ⊥
-Among e (f ∷ fs) = (e ≡ f) ⊎ Among e fs
-
 -- no operation of the processor covers the column
 abbrev pub Idle : Scale → ℕ → List Entry → ℕ → Type 0
-Idle scale p es x = (e : Entry) → Among e es → e.processor ≡ p → covers scale e x ≢ true
+Idle scale p es x = All (λ e. e.processor ≡ p → covers scale e x ≢ true) es
 
 -- neither of two operations begins after the other ends
 abbrev pub Overlap : Scale → Entry → Entry → Type 0
@@ -30,6 +25,6 @@ pub record LanesTell (width : ℕ) (es : List Entry) : Type 0 where
   -- the lanes of the processors below 1,000 are equally long: the columns, and 11 bytes with the newline
   pub equally_long : (p : ℕ) → p < 1000 → length (lane_text (scale_of width es) es p) ≡ (scale_of width es).columns + 11
   -- operations that overlap in time share a column
-  pub overlap_seen : (e f : Entry) → Among e es → Among f es → Overlap (scale_of width es) e f → Shared (scale_of width es) e f
+  pub overlap_seen : (e f : Entry) → Contains es e → Contains es f → Overlap (scale_of width es) e f → Shared (scale_of width es) e f
   -- where every stamp has a column of its own, begun operations that share one overlap in time
-  pub apart_seen : (scale_of width es).columns ≡ (scale_of width es).last → (e f : Entry) → Among e es → Among f es → 1 ≤ e.from → 1 ≤ f.from → Shared (scale_of width es) e f → Overlap (scale_of width es) e f
+  pub apart_seen : (scale_of width es).columns ≡ (scale_of width es).last → (e f : Entry) → Contains es e → Contains es f → 1 ≤ e.from → 1 ≤ f.from → Shared (scale_of width es) e f → Overlap (scale_of width es) e f

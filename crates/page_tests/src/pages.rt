@@ -1,5 +1,5 @@
 // Whole pages, written and read.
-use crate::{entry, junk, small_header};
+use crate::{entry, junk, page_of, small_header};
 use entries::entry::{Call, Entry};
 use entries::header::{Header, JobKind, Register};
 use record::read::read_page;
@@ -66,7 +66,10 @@ fn reads_spans(rt: HostRuntime) -> Result<(), Fail> {
 #[test]
 fn writes_checks(rt: HostRuntime) -> Result<(), Fail> {
     let mut out = [7u8; 300];
-    let n = write_page(&small_header(JobKind::Check), &check_entries(), &mut out)?;
+    let n = write_page(
+        &page_of(small_header(JobKind::Check), &check_entries()),
+        &mut out,
+    )?;
     assert!(rt; n <= 300);
     assert_eq!(rt; &out[0..n], check_page());
     assert!(rt; out[n..300] == [7u8; 300][n..300]);
@@ -79,7 +82,7 @@ fn writes_spans(rt: HostRuntime) -> Result<(), Fail> {
     // the numbers of a job that is not shown do not matter
     let mut entries = span_entries();
     entries[1].first = 9;
-    let n = write_page(&span_header(), &entries, &mut out)?;
+    let n = write_page(&page_of(span_header(), &entries), &mut out)?;
     assert!(rt; n <= 300);
     assert_eq!(rt; &out[0..n], span_page());
     Ok(())

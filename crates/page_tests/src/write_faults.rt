@@ -1,5 +1,5 @@
 // Each refusal of the writer on both sides of its edge, and the longest page there is.
-use crate::{entry, junk, small_header};
+use crate::{entry, junk, page_of, small_header};
 use entries::entry::{Call, Entry};
 use entries::header::{Header, JobKind, Register};
 use record::read::read_page;
@@ -13,7 +13,7 @@ use text::fault::{PlacedFault, Refusal};
 // What comes of writing one entry into a buffer of 300: its refusal, or none. A refusal has to leave the buffer as it was.
 fn refusal(rt: &impl Abort, header: &Header, e: Entry) -> Result<Option<WriteRefusal>, Fail> {
     let mut out = [7u8; 300];
-    match write_page(header, &[e], &mut out) {
+    match write_page(&page_of(*header, &[e]), &mut out) {
         Ok(_) => Ok(None),
         Err(why) => {
             assert!(rt; out == [7u8; 300]);
@@ -107,15 +107,15 @@ fn order_of_checks(rt: HostRuntime) {
     let bad_range = entry(9, Call::Put, (1, 2, 3), 1, (1, 1));
     let mut out = [7u8; 1];
     assert_eq!(rt;
-        write_page(&header, &[bad_job, bad_range], &mut out),
+        write_page(&page_of(header, &[bad_job, bad_range]), &mut out),
         Err(WriteRefusal::OutOfRange)
     );
     assert_eq!(rt;
-        write_page(&header, &[bad_job], &mut out),
+        write_page(&page_of(header, &[bad_job]), &mut out),
         Err(WriteRefusal::JobRefused)
     );
     assert_eq!(rt;
-        write_page(&header, &[], &mut out),
+        write_page(&page_of(header, &[]), &mut out),
         Err(WriteRefusal::BufferTooShort)
     );
     assert!(rt; out == [7u8; 1]);
@@ -127,11 +127,11 @@ fn short_buffer(rt: HostRuntime) {
     let header = small_header(JobKind::Check);
     let mut out = [7u8; 47];
     assert_eq!(rt;
-        write_page(&header, &[], &mut out[0..45]),
+        write_page(&page_of(header, &[]), &mut out[0..45]),
         Err(WriteRefusal::BufferTooShort)
     );
     assert!(rt; out == [7u8; 47]);
-    assert_eq!(rt; write_page(&header, &[], &mut out[0..46]), Ok(46));
+    assert_eq!(rt; write_page(&page_of(header, &[]), &mut out[0..46]), Ok(46));
     assert_eq!(rt; out[46], 7);
 }
 
@@ -152,7 +152,7 @@ fn longest_page(rt: HostRuntime) -> Result<(), Fail> {
     let mut out = vec![in heap; 7u8; 32769]?;
     let entries = takes(heap, 30)?;
     assert_eq!(rt;
-        write_page(&header, entries.as_slice(), &mut out),
+        write_page(&page_of(header, entries.as_slice()), &mut out),
         Ok(32768)
     );
     let mut list = vec![in heap; junk(); 656]?;
@@ -179,12 +179,18 @@ fn page_too_long(rt: HostRuntime) -> Result<(), Fail> {
     let mut out = vec![in heap; 7u8; 32769]?;
     let entries = takes(heap, 31)?;
     assert_eq!(rt;
-        write_page(&small_header(JobKind::Check), entries.as_slice(), &mut out),
+        write_page(
+            &page_of(small_header(JobKind::Check), entries.as_slice()),
+            &mut out
+        ),
         Err(WriteRefusal::PageTooLong)
     );
     // a page that is too long is told so before a buffer that is too short
     assert_eq!(rt;
-        write_page(&small_header(JobKind::Check), entries.as_slice(), &mut []),
+        write_page(
+            &page_of(small_header(JobKind::Check), entries.as_slice()),
+            &mut []
+        ),
         Err(WriteRefusal::PageTooLong)
     );
     let untouched = vec![in heap; 7u8; 32769]?;

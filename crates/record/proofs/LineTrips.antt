@@ -6,7 +6,7 @@ use Rattle.text.specs.Figures.{within}
 use Rattle.text.specs.Pairs.{fault, then, pair, gap, ender}
 use Rattle.text.specs.Written.{word_pair, number_pair}
 use Rattle.text.specs.declared.fault.Refusal.TheVariants.{ListFull}
-use Rattle.text.proofs.Answered.{ok_inj, err_ok}
+use Rattle.text.proofs.Answered.{ok_inj}
 use Rattle.text.proofs.Trips.{then_ok, then_on, then_at, gap_complete}
 use Rattle.text.proofs.PairTrips.{number_sound, number_complete, last_sound, last_complete, word_sound, word_complete}
 use Rattle.entries.specs.Calls.{call_text, call_of}
@@ -15,7 +15,8 @@ use Rattle.entries.specs.declared.entry.Entry.{Entry}
 use Rattle.entries.specs.declared.header.Header.{Header}
 use Rattle.record.specs.Lines.{shown, shows, task_end, job_pairs, entry_text, entries_text, as_shown}
 use Rattle.record.specs.Read.{read_job, read_shown, read_entry_gives, read_entries, with_first}
-use Rattle.record.specs.Write.{in_range, is_job, all_of}
+use Rattle.std.specs.List.{list_all}
+use Rattle.record.specs.Write.{in_range, is_job}
 use Rattle.record.proofs.ReadLines.{lines_none, lines_more, after_line_on, after_line_same, with_first_on}
 use Rattle.record.proofs.Tested.{entry_some}
 
@@ -43,7 +44,7 @@ module _ (kind : Kind) (laws : Lawful kind) where
       let both = ok_inj (sym (cond-true _ _ _ yes-job) ∙ r.3) in
       let P : (ℕ × ℕ) × List ℕ → Type 0 = λ x. (s ≡ pairs x.0 ++ x.1) × (kind.accepts x.0.0 x.0.1 ≡ true) in
       subst P both (a.0 ∙ ap (λ l. number_pair kind.names.key1 p.0 32 ++ l) b.0 ∙ sym (append_assoc (number_pair kind.names.key1 p.0 32) (number_pair kind.names.key2 q.0 10) r.1), yes-job))
-      (λ no-job. absurd (err_ok (sym (cond-false _ _ _ no-job) ∙ r.3)))
+      (λ no-job. (cc (sym (cond-false _ _ _ no-job) ∙ r.3)))
       (cases_Bool (kind.accepts p.0 q.0))
 
   shown_sound : (b : Bool) (s : List ℕ) (j : ℕ × ℕ) (t : List ℕ) → read_shown kind b s ≡ Ok (j, t) → (s ≡ cond b (pairs j) [] ++ t) × ((not b || kind.accepts j.0 j.1) ≡ true)
@@ -60,7 +61,7 @@ module _ (kind : Kind) (laws : Lawful kind) where
     shorter op s e t sound = omega (arith, ap length sound.text, length-append (entry_text kind op e) t, entry_some kind op e)
 
     -- the parts of a line, one after another
-    line_text : (op : ℕ) (x : Entry) (s s1 s2 s3 s4 s5 s6 s8 t : List ℕ) → s ≡ number_pair (codes "op") op 32 ++ s1 → s1 ≡ number_pair (codes "proc") x.processor 32 ++ s2 → s2 ≡ word_pair (codes "call") (call_text x.call) 32 ++ s3 → s3 ≡ number_pair (codes "from") x.from 32 ++ s4 → s4 ≡ number_pair (codes "mark") x.mark 32 ++ s5 → s5 ≡ number_pair (codes "to") x.to 32 ++ s6 → s6 ≡ number_pair (codes "task") x.task (task_end x) ++ s8 → s8 ≡ job_pairs kind x ++ t → s ≡ entry_text kind op x ++ t
+    line_text : (op : ℕ) (x : Entry) (s s1 s2 s3 s4 s5 s6 s8 t : List ℕ) → s ≡ number_pair (codes "op") op 32 ++ s1 → s1 ≡ number_pair (codes "proc") x.processor 32 ++ s2 → s2 ≡ word_pair (codes "call") (call_text x.call) 32 ++ s3 → s3 ≡ number_pair (codes "from") x.from 32 ++ s4 → s4 ≡ number_pair (codes "mark") x.mark 32 ++ s5 → s5 ≡ number_pair (codes "to") x.to 32 ++ s6 → s6 ≡ number_pair (codes "task") x.task (task_end x) ++ s8 → s8 ≡ job_pairs kind x 10 ++ t → s ≡ entry_text kind op x ++ t
     unfolding entry_text
     line_text op x s s1 s2 s3 s4 s5 s6 s8 t a b c d e f g h = simp append_assoc (cc)
 
@@ -120,26 +121,26 @@ module _ (kind : Kind) (laws : Lawful kind) where
         ∙ then_at _ (number_complete (codes "from") 0 65535 x.from _ (omega arith) (omega arith) (leb-true _ _ r2.0))
         ∙ then_at _ (number_complete (codes "mark") 0 65535 x.mark _ (omega arith) (omega arith) (leb-true _ _ r3.0))
         ∙ then_at _ (number_complete (codes "to") 0 65535 x.to _ (omega arith) (omega arith) (leb-true _ _ r4.0))
-        ∙ then_at _ (subst (λ n. pair (codes "task") (within 0 (hd.places - 2)) (number_pair (codes "task") x.task n ++ (job_pairs kind x ++ t)) ≡ Ok (x.task, n ∷ (job_pairs kind x ++ t))) (ender_not (shows x))
-        (last_complete (codes "task") 0 (hd.places - 2) last x.task (job_pairs kind x ++ t) (omega arith) (omega arith) (leb-true _ _ r4.1)))
-        ∙ then_at _ (subst (λ n. gap last (n ∷ (job_pairs kind x ++ t)) ≡ Ok (tt, job_pairs kind x ++ t)) (ender_not (shows x)) (gap_complete last (job_pairs kind x ++ t)))
+        ∙ then_at _ (subst (λ n. pair (codes "task") (within 0 (hd.places - 2)) (number_pair (codes "task") x.task n ++ (job_pairs kind x 10 ++ t)) ≡ Ok (x.task, n ∷ (job_pairs kind x 10 ++ t))) (ender_not (shows x))
+        (last_complete (codes "task") 0 (hd.places - 2) last x.task (job_pairs kind x 10 ++ t) (omega arith) (omega arith) (leb-true _ _ r4.1)))
+        ∙ then_at _ (subst (λ n. gap last (n ∷ (job_pairs kind x 10 ++ t)) ≡ Ok (tt, job_pairs kind x 10 ++ t)) (ender_not (shows x)) (gap_complete last (job_pairs kind x 10 ++ t)))
         ∙ then_at _ (shown_complete (shows x) x.first x.second t job)
 
-    pub lines_sound : (k op : ℕ) (s : List ℕ) (es : List Entry) → op + length s < 2 ^ 64 → read_entries kind hd k op s ≡ Ok es → (s ≡ entries_text kind op es) × (all_of (in_range hd) es ≡ true) × (all_of (is_job kind) es ≡ true)
-    lines_sound zero op [] es small h = let none = ok_inj h in (ap (entries_text kind op) none, ap (all_of (in_range hd)) (sym none), ap (all_of (is_job kind)) (sym none))
+    pub lines_sound : (k op : ℕ) (s : List ℕ) (es : List Entry) → op + length s < 2 ^ 64 → read_entries kind hd k op s ≡ Ok es → (s ≡ entries_text kind op es) × (list_all (in_range hd) es ≡ true) × (list_all (is_job kind) es ≡ true)
+    lines_sound zero op [] es small h = let none = ok_inj h in (ap (entries_text kind op) none, ap (list_all (in_range hd)) (sym none), ap (list_all (is_job kind)) (sym none))
     lines_sound zero op (c ∷ cs) es small h =
-        after_line_on (read_entry_gives kind hd (op + 1) (c ∷ cs)) (λ e t. Err (fault ListFull (c ∷ cs))) es h (λ x t e1 h1. absurd (err_ok h1))
-    lines_sound (suc k) op [] es small h = let none = ok_inj h in (ap (entries_text kind op) none, ap (all_of (in_range hd)) (sym none), ap (all_of (is_job kind)) (sym none))
+        after_line_on (read_entry_gives kind hd (op + 1) (c ∷ cs)) (λ e t. Err (fault ListFull (c ∷ cs))) es h (λ x t e1 h1. cc)
+    lines_sound (suc k) op [] es small h = let none = ok_inj h in (ap (entries_text kind op) none, ap (list_all (in_range hd)) (sym none), ap (list_all (is_job kind)) (sym none))
     lines_sound (suc k) op (c ∷ cs) es small h =
         after_line_on (read_entry_gives kind hd (op + 1) (c ∷ cs)) (λ e t. with_first e (read_entries kind hd k (op + 1) t)) es h (λ x t e1 h1.
         with_first_on x (read_entries kind hd k (op + 1) t) es h1 (λ fs e2 is.
         let one = entry_sound (op + 1) (c ∷ cs) x t (omega arith) e1 in
         let fewer = shorter (op + 1) (c ∷ cs) x t one in
         let rest = lines_sound k (op + 1) t fs (omega arith) e2 in
-        let P : List Entry → Type 0 = λ l. (c ∷ cs ≡ entries_text kind op l) × (all_of (in_range hd) l ≡ true) × (all_of (is_job kind) l ≡ true) in
+        let P : List Entry → Type 0 = λ l. (c ∷ cs ≡ entries_text kind op l) × (list_all (in_range hd) l ≡ true) × (list_all (is_job kind) l ≡ true) in
         subst P (sym is) (one.text ∙ ap (λ l. entry_text kind (op + 1) x ++ l) rest.0, and_from _ _ one.ranged rest.1, and_from _ _ one.job rest.2)))
 
-    pub lines_complete : (k op : ℕ) (es : List Entry) → op + length es < 2 ^ 64 → length es ≤ k → all_of (in_range hd) es ≡ true → all_of (is_job kind) es ≡ true → read_entries kind hd k op (entries_text kind op es) ≡ Ok (map as_shown es)
+    pub lines_complete : (k op : ℕ) (es : List Entry) → op + length es < 2 ^ 64 → length es ≤ k → list_all (in_range hd) es ≡ true → list_all (is_job kind) es ≡ true → read_entries kind hd k op (entries_text kind op es) ≡ Ok (map as_shown es)
     lines_complete k op [] small few-es r j = lines_none kind hd k op [] refl
     lines_complete zero op (x ∷ xs) small few-es r j = absurd (omega arith)
     lines_complete (suc k) op (x ∷ xs) small few-es r j =

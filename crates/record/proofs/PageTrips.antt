@@ -1,5 +1,5 @@
 -- The pages that are written are the texts that are read.
-use Rattle.std.proofs.Common.{◌≡◌, ℕ, ◌+◌, ◌^◌, ◌<◌, ◌≤◌, true, ◌&&◌, leb, List, ◌++◌, map, length, take, Ok, Err, Result, sym, refl, ap, ◌∙◌, subst, arith, length-append}
+use Rattle.std.proofs.Common.{◌≡◌, ℕ, ◌+◌, ◌^◌, ◌<◌, ◌≤◌, true, ◌&&◌, leb, List, ◌++◌, min, map, length, take, Ok, Err, Result, sym, refl, ap, ◌∙◌, subst, arith, length-append}
 use lib.ListN.{length-map}
 use Rattle.std.proofs.lemmas.Bool.{leb-true, and_parts}
 use Rattle.jobs.specs.CheckLaws.{check_laws}
@@ -12,20 +12,21 @@ use Rattle.text.specs.Written.{written}
 use Rattle.text.specs.WrittenLaws.{take_front}
 use Rattle.text.specs.declared.fault.Fault.{Fault}
 use Rattle.text.specs.declared.fault.PlacedFault.{PlacedFault}
-use Rattle.text.proofs.Answered.{ok_inj, err_ok, cond_ok}
+use Rattle.text.proofs.Answered.{ok_inj, cond_ok}
 use Rattle.entries.specs.declared.entry.Entry.{Entry}
 use Rattle.record.specs.Header.{header_text, header_ok, read_header}
 use Rattle.record.specs.Lines.{entries_text, as_shown}
 use Rattle.record.specs.Read.{read_entries, with_header, after_header, if_whole, read_page_gives, read_answer, list_of_page}
 use Rattle.record.specs.Trip.{Makes, TakesWhatIsWritten, MakesWhatIsRead}
 use Rattle.entries.specs.HeaderWords.{job_kind}
-use Rattle.record.specs.Write.{in_range, is_job, all_of, page_text, write_jobs_gives, write_page_gives, text_size, buffer_after}
+use Rattle.std.specs.List.{list_all}
+use Rattle.record.specs.Write.{in_range, is_job, page_text, write_jobs_gives, write_page_gives, text_size, buffer_after}
 use Rattle.entries.specs.declared.header.Header.{Header}
 use Rattle.entries.specs.declared.header.JobKind.{JobKind}
 use Rattle.entries.specs.declared.header.JobKind.TheVariants.{Check, Span}
 use Rattle.record.specs.declared.refusal.WriteRefusal.{WriteRefusal}
 use Rattle.record.proofs.HeaderTrips.{ranged, header_sound, header_complete}
-use Rattle.record.proofs.LineTrips.{lines_sound, lines_complete}
+use Rattle.record.proofs.LineTrips.{room_min, lines_sound, lines_complete}
 use Rattle.record.proofs.Paged.{page_is}
 use Rattle.record.proofs.PageWriting.{page_some, page_fits}
 use Rattle.record.proofs.PlainPages.{page_whole}
@@ -35,25 +36,30 @@ pub job_lawful : (j : JobKind) → Lawful (job_kind j)
 job_lawful Check = lawful _ _ _ check_laws
 job_lawful Span = lawful _ _ _ span_laws
 
+-- room for 32,768 entries is enough for the lines of a page
+pub room_for : (h : Header) → header_ok h ≡ true → (room : ℕ) (s : List ℕ) → length s ≤ 32768
+    → read_entries (job_kind h.job) h (min room 32768) 0 s ≡ read_entries (job_kind h.job) h room 0 s
+room_for h ok room s short = let r = ranged h ok in room_min (job_kind h.job) (job_lawful h.job) h r.high_processors r.high_places 32768 room s short (omega arith)
+
 -- what a written page has, and a text that is read
 record IsPage (s : List ℕ) (h : Header) (es : List Entry) : Type 0 where
   text : s ≡ page_text (job_kind h.job) h es
   header : header_ok h ≡ true
-  fields : all_of (in_range h) es ≡ true
-  jobs : all_of (is_job (job_kind h.job)) es ≡ true
+  fields : list_all (in_range h) es ≡ true
+  jobs : list_all (is_job (job_kind h.job)) es ≡ true
   short : length s ≤ 32768
 
 if_whole_on : {P : Type 0} (w : Result (Unit {0}) Fault) (r : Result (Header × List Entry) Fault) (y : Header × List Entry) → if_whole w r ≡ Ok y → (w ≡ Ok tt → r ≡ Ok y → P) → P
 if_whole_on (Ok tt) r y e on = on refl e
-if_whole_on (Err f) r y e on = absurd (err_ok e)
+if_whole_on (Err f) r y e on = cc
 
 after_header_on : {P : Type 0} (r : Step Header) (k : Header → List ℕ → Result (Header × List Entry) Fault) (y : Header × List Entry) → after_header r k ≡ Ok y → ((h : Header) (t : List ℕ) → r ≡ Ok (h, t) → k h t ≡ Ok y → P) → P
 after_header_on (Ok p) k y e on = on p.0 p.1 refl e
-after_header_on (Err f) k y e on = absurd (err_ok e)
+after_header_on (Err f) k y e on = cc
 
 with_header_on : {P : Type 0} (h : Header) (r : Result (List Entry) Fault) (y : Header × List Entry) → with_header h r ≡ Ok y → ((es : List Entry) → r ≡ Ok es → (h, es) ≡ y → P) → P
 with_header_on h (Ok es) y e on = on es refl (ok_inj e)
-with_header_on h (Err f) y e on = absurd (err_ok e)
+with_header_on h (Err f) y e on = cc
 
 whole_short : (s : List ℕ) → whole 32768 s ≡ Ok tt → length s ≤ 32768
 unfolding whole
@@ -93,9 +99,9 @@ page_written : (room : ℕ) (h : Header) (es : List Entry) (t : List ℕ) → wr
 unfolding write_jobs_gives
 page_written room h es t e =
     let kind = job_kind h.job in
-    let a = cond_ok (header_ok h && all_of (in_range h) es) _ _ t e in
+    let a = cond_ok (header_ok h && list_all (in_range h) es) _ _ t e in
     let z = and_parts (header_ok h) _ a.0 in
-    let b = cond_ok (all_of (is_job kind) es) _ _ t a.1 in
+    let b = cond_ok (list_all (is_job kind) es) _ _ t a.1 in
     let c = cond_ok (leb (length (page_text kind h es)) 32768) _ _ t b.1 in
     let d = cond_ok (leb (length (page_text kind h es)) room) _ _ t c.1 in
     let same = ok_inj d.1 in
@@ -109,11 +115,11 @@ answer_ok : (s : List ℕ) (r : Result (Header × List Entry) Fault) (h : Header
 answer_ok s (Ok p) h n e =
     let same = ok_inj e in
     (p.1, ap (λ x. Ok (x.0, p.1)) same, sym (ap (λ x. x.1) same))
-answer_ok s (Err f) h n e = absurd (err_ok e)
+answer_ok s (Err f) h n e = cc
 
 size_ok : (r : Result (List ℕ) WriteRefusal) (n : ℕ) → text_size r ≡ Ok n → (t : List ℕ) × (r ≡ Ok t) × (n ≡ length t)
 size_ok (Ok t) n e = (t, refl, sym (ok_inj e))
-size_ok (Err f) n e = absurd (err_ok e)
+size_ok (Err f) n e = cc
 
 takes_what_is_written : (text : List ℕ) (list : List Entry) → TakesWhatIsWritten text (length list) (read_answer text (read_page_gives (length list) text)) (list_of_page (read_page_gives (length list) text) list)
 takes_what_is_written text list = record {

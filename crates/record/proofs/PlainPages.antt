@@ -14,7 +14,8 @@ use Rattle.record.specs.Header.{header_text, header_ok}
 use Rattle.record.specs.Lines.{shows, task_end, job_pairs, entry_text, entries_text}
 use Rattle.entries.specs.HeaderWordLaws.{register_laws, job_laws}
 use Rattle.entries.specs.HeaderWords.{register_text, job_text}
-use Rattle.record.specs.Write.{in_range, is_job, all_of, page_text}
+use Rattle.std.specs.List.{list_all}
+use Rattle.record.specs.Write.{in_range, is_job, page_text}
 use Rattle.entries.specs.declared.header.Header.{Header}
 use Rattle.record.proofs.HeaderTrips.{ranged}
 
@@ -106,14 +107,14 @@ module _ (kind : Kind) (laws : Lawful kind) where
         (both (number_plain (codes "task") e.task (task_end e) (omega (arith, leb-true _ _ r4.1, r.high_places)) refl (end_plain (shows e)))
         (job_plain (shows e) e.first e.second job)))))))
 
-    entries_plain : (op : ℕ) (es : List Entry) → op + length es < 2 ^ 64 → all_of (in_range hd) es ≡ true → all_of (is_job kind) es ≡ true → Plain (entries_text kind op es)
+    entries_plain : (op : ℕ) (es : List Entry) → op + length es < 2 ^ 64 → list_all (in_range hd) es ≡ true → list_all (is_job kind) es ≡ true → Plain (entries_text kind op es)
     entries_plain op [] small r j = record { is = refl }
     entries_plain op (e ∷ es) small r j =
         let r2 = and_parts (in_range hd e) _ r in
         let j2 = and_parts (is_job kind e) _ j in
         both (entry_plain (op + 1) e (omega arith) r2.0 j2.0) (entries_plain (op + 1) es (omega arith) r2.1 j2.1)
 
-    pub page_whole : (most : ℕ) (es : List Entry) → length es < 2 ^ 64 → all_of (in_range hd) es ≡ true → all_of (is_job kind) es ≡ true → length (page_text kind hd es) ≤ most → whole most (page_text kind hd es) ≡ Ok tt
+    pub page_whole : (most : ℕ) (es : List Entry) → length es < 2 ^ 64 → list_all (in_range hd) es ≡ true → list_all (is_job kind) es ≡ true → length (page_text kind hd es) ≤ most → whole most (page_text kind hd es) ≡ Ok tt
     unfolding page_text whole
     page_whole most es small r j short =
         let p : Plain (header_text hd ++ entries_text kind 0 es) = both (header_plain hd ok) (entries_plain 0 es (omega arith) r j) in

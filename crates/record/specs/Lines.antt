@@ -23,8 +23,9 @@ shows e = shown e.call e.to e.task
 abbrev pub task_end : Entry → ℕ
 task_end e = cond (shows e) 32 10
 
-unfoldable pub job_pairs : Kind → Entry → List ℕ
-job_pairs kind e = cond (shows e) (number_pair kind.names.key1 e.first 32 ++ number_pair kind.names.key2 e.second 10) []
+-- the numbers of the job, if it is shown, and the byte that ends them
+unfoldable pub job_pairs : Kind → Entry → ℕ → List ℕ
+job_pairs kind e end = cond (shows e) (number_pair kind.names.key1 e.first 32 ++ number_pair kind.names.key2 e.second end) []
 
 -- the line of the operation that has this number
 unfoldable pub entry_text : Kind → ℕ → Entry → List ℕ
@@ -36,7 +37,7 @@ entry_text kind op e =
     ++ (number_pair (codes "mark") e.mark 32
     ++ (number_pair (codes "to") e.to 32
     ++ (number_pair (codes "task") e.task (task_end e)
-    ++ job_pairs kind e))))))
+    ++ job_pairs kind e 10))))))
 
 -- the lines of the entries, numbered after op
 abbrev pub entries_text : Kind → ℕ → List Entry → List ℕ

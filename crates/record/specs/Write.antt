@@ -1,5 +1,6 @@
 -- The page that the writer makes, or why it makes none.
-use Rattle.std.specs.Prelude.{ℕ, ◌-◌, Bool, true, cond, not, ◌&&◌, ◌||◌, List, [], ◌∷◌, ◌++◌, length, Ok, Err, Result, nat_le}
+use Rattle.std.specs.Prelude.{ℕ, ◌-◌, Bool, cond, not, ◌&&◌, ◌||◌, List, ◌++◌, length, Ok, Err, Result, nat_le}
+use Rattle.std.specs.List.{list_all}
 use Rattle.jobs.specs.JobType.{Kind}
 use Rattle.text.specs.Written.{written}
 use Rattle.entries.specs.declared.entry.Entry.{Entry}
@@ -18,10 +19,6 @@ in_range h e = nat_le e.processor (h.processors - 1) && (nat_le e.from 65535 && 
 abbrev pub is_job : Kind → Entry → Bool
 is_job kind e = not (shows e) || kind.accepts e.first e.second
 
-abbrev pub all_of : (Entry → Bool) → List Entry → Bool
-all_of p [] = true
-all_of p (e ∷ es) = p e && all_of p es
-
 unfoldable pub page_text : Kind → Header → List Entry → List ℕ
 page_text kind h es = header_text h ++ entries_text kind 0 es
 
@@ -31,7 +28,7 @@ fitted room t = cond (nat_le (length t) 32768) (cond (nat_le (length t) room) (O
 
 unfoldable pub write_jobs_gives : Kind → ℕ → Header → List Entry → Result (List ℕ) WriteRefusal
 write_jobs_gives kind room h es =
-    cond (header_ok h && all_of (in_range h) es) (cond (all_of (is_job kind) es) (fitted room (page_text kind h es)) (Err JobRefused)) (Err OutOfRange)
+    cond (header_ok h && list_all (in_range h) es) (cond (list_all (is_job kind) es) (fitted room (page_text kind h es)) (Err JobRefused)) (Err OutOfRange)
 
 -- the page of a header and entries, given room for so many bytes
 abbrev pub write_page_gives : ℕ → Header → List Entry → Result (List ℕ) WriteRefusal

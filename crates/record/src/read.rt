@@ -22,12 +22,14 @@ fn read_lines(lines: &[u8], h: &Header, list: &mut [Entry]) -> Result<u32, Fault
     ensures value { result ≡ size_of (read_entries (job_kind h.now.job) h.now (length list.old) 0 lines.now) }
     ensures filled { list.new ≡ list_after (read_entries (job_kind h.now.job) h.now (length list.old) 0 lines.now) list.old }
 {
+    // the header's word chooses a type, which no closure is generic in
     match h.job {
         JobKind::Check => fill_list::<Check>(lines, h, list),
         JobKind::Span => fill_list::<Span>(lines, h, list),
     }
 }
 
+#[tactic(auto, unfolding(crate::specs::Read::read_page_gives))]
 fn read_parts(text: &[u8], list: &mut [Entry]) -> Result<(Header, usize), Fault>
     ensures value { result ≡ counted_page (read_page_gives (length list.old) text.now) }
     ensures filled { list.new ≡ list_of_page (read_page_gives (length list.old) text.now) list.old }
@@ -40,14 +42,12 @@ fn read_parts(text: &[u8], list: &mut [Entry]) -> Result<(Header, usize), Fault>
 }
 
 // The header of a record and how many entries it has, which stand from the start of the list;
-// or why and where the text is refused, and then the list is as it was.
+// or why and where the text is refused, and then the list is as it was. The list is lent with a count beside what it
+// holds, since the device side has no heap for a `Vec`.
 pub fn read_page(text: &[u8], list: &mut [Entry]) -> Result<(Header, usize), PlacedFault>
     ensures value { result ≡ read_answer text.now (read_page_gives (length list.old) text.now) }
     ensures filled { list.new ≡ list_of_page (read_page_gives (length list.old) text.now) list.old }
     ensures trip { TakesWhatIsWritten text.now (length list.old) result list.new }
 {
-    match read_parts(text, list) {
-        Ok(x) => Ok(x),
-        Err(f) => Err(place_of(text, f)),
-    }
+    read_parts(text, list).map_err(|f| place_of(text, f))
 }

@@ -14,14 +14,17 @@ use text::reader::Reader;
 use text::sink::{Buffer, Counter, Sink};
 
 // The numbers of a job, which its type has to accept; a refusal lies at the first of the two.
+#[tactic(auto, unfolding(crate::specs::Read::read_job, text::specs::Pairs::then))]
 fn read_job_pairs<J: Job + Drop>(r: &mut Reader<'_>) -> Result<(u32, u32), Fault>
     ensures { outcome result r.new.rest.now ≡ read_job (kind J.Job.names J.Job.made) r.old.rest.now }
 {
-    let left = r.rest.len().saturating_sub(J::first_key_bytes().len() + 1);
-    let a = r.number_field(J::first_key_bytes(), 0, u32::MAX)?;
-    let b = r.number_at(J::second_key_bytes(), 0, u32::MAX)?;
+    let words = J::words();
+    let left = r.rest.len().saturating_sub(words.first_key.len() + 1);
+    let a = r.number_field(words.first_key, 0..=u32::MAX)?;
+    let b = r.number_at(words.second_key, 0..=u32::MAX)?;
     r.gap_at(true)?;
-    if J::from_numbers(a, b).is_none() {
+    if J::try_from((a, b)).is_err() {
+        // the reader has gone on, and only how much was left is known still
         return Err(Fault {
             refusal: Refusal::JobRefused,
             left,
@@ -30,26 +33,24 @@ fn read_job_pairs<J: Job + Drop>(r: &mut Reader<'_>) -> Result<(u32, u32), Fault
     Ok((a, b))
 }
 
+#[tactic(auto, unfolding(crate::specs::Read::read_entry_gives, text::specs::Pairs::then))]
 fn read_entry<J: Job + Drop>(r: &mut Reader<'_>, h: &Header, op: u32) -> Result<Entry, Fault>
-    requires { (1 ≤ h.now.processors) × (2 ≤ h.now.places) }
     ensures { outcome result r.new.rest.now ≡ read_entry_gives (kind J.Job.names J.Job.made) h.now op r.old.rest.now }
 {
-    r.number_field(b"op", op, op)?;
-    let processor = r.number_field(b"proc", 0, h.processors - 1)?;
+    r.number_field(b"op", op..=op)?;
+    let processor = r.number_field(b"proc", 0..=h.last_processor())?;
     let call = r.word_field::<Call>(b"call")?;
-    let from = r.number_field(b"from", 0, 65535)?;
-    let mark = r.number_field(b"mark", 0, 65535)?;
-    let to = r.number_field(b"to", 0, 65535)?;
-    let task = r.number_at(b"task", 0, h.places - 2)?;
+    let from = r.number_field(b"from", 0..=65535)?;
+    let mark = r.number_field(b"mark", 0..=65535)?;
+    let to = r.number_field(b"to", 0..=65535)?;
+    let task = r.number_at(b"task", 0..=h.last_task())?;
     let shown = is_shown(call, to, task);
     r.gap_at(!shown)?;
-    let mut first = 0;
-    let mut second = 0;
-    if shown {
-        let job = read_job_pairs::<J>(r)?;
-        first = job.0;
-        second = job.1;
-    }
+    let (first, second) = if shown {
+        read_job_pairs::<J>(r)?
+    } else {
+        (0, 0)
+    };
     Ok(Entry {
         processor,
         call,
@@ -69,25 +70,23 @@ fn read_all<S: Sink<Entry>, J: Job + Drop>(
     room: u32,
     s: &mut S,
 ) -> Result<u32, Fault>
-    requires ranged { (1 ≤ h.now.processors) × (2 ≤ h.now.places) }
-    requires few { room ≤ 32768 }
+    requires { room ≤ 32768 }
     ensures value { result ≡ size_of (read_entries (kind J.Job.names J.Job.made) h.now room 0 r.old.rest.now) }
     ensures taken { (es : List Entries) → read_entries (kind J.Job.names J.Job.made) h.now room 0 r.old.rest.now ≡ Ok es → S.Sink.took s.old es s.new }
 {
-    let mut n: u32 = 0;
-    while !r.rest.is_empty() {
-        let left = r.rest.len();
-        let e = read_entry::<J>(r, h, n + 1)?;
-        if n >= room {
-            return Err(Fault {
-                refusal: Refusal::ListFull,
-                left,
-            });
+    for n in 0..room {
+        if r.rest.is_empty() {
+            return Ok(n);
         }
-        s.put(e);
-        n += 1;
+        s.put(read_entry::<J>(r, h, n + 1)?);
     }
-    Ok(n)
+    if r.rest.is_empty() {
+        return Ok(room);
+    }
+    let full = Refusal::ListFull.at(r.rest);
+    // a line too many is refused for a fault of its own first
+    read_entry::<J>(r, h, room + 1)?;
+    Err(full)
 }
 
 // Fills the list from its start; the lines are read twice, so that a refusal leaves the list as it was.
@@ -96,7 +95,6 @@ pub(crate) fn fill_list<J: Job + Drop>(
     h: &Header,
     list: &mut [Entry],
 ) -> Result<u32, Fault>
-    requires { (1 ≤ h.now.processors) × (2 ≤ h.now.places) }
     ensures value { result ≡ size_of (read_entries (kind J.Job.names J.Job.made) h.now (min (length list.old) 32768) 0 lines.now) }
     ensures filled { list.new ≡ list_after (read_entries (kind J.Job.names J.Job.made) h.now (min (length list.old) 32768) 0 lines.now) list.old }
 {

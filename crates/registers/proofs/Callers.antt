@@ -1,15 +1,10 @@
 -- What a caller of any head register learns from an answer: of a sound register, all that the plain laws say.
-use Rattle.std.proofs.Common.{◌≡◌, ℕ, ◌<◌, Some, None, Ok, Option, refl, arith}
+use Rattle.std.proofs.Common.{ℕ, ◌<◌, Ok}
 use Rattle.registers.specs.declared.answers.Became.{Became}
-use Rattle.registers.specs.declared.answers.Refusal.{Refusal}
 use Rattle.registers.specs.Meaning.{is_busy}
 use Rattle.registers.specs.Model.{Model, Plain, Reads, Writes, Steps, ReadBegins, WriteBegins, Accesses}
-use Rattle.registers.specs.Refusals.{Decided, refuse_read, refuse_write, refuse_step}
-use Rattle.registers.specs.Accepted.{accept_read, accept_write, accept_step}
-
-accepted : {S T : Type 0} (refusal : Option Refusal) (P : T → S → Type 0) (x y : S) (v : T) → Decided refusal P x (Ok v) y → (refusal ≡ None) × P v y
-accepted None P x y v d = (refl, d)
-accepted (Some e) P x y v d = let z : ◌≡◌ {A = ℕ} 0 1 = let q = d.0 in cc in absurd (omega arith)
+use Rattle.registers.specs.Refusals.{refuse_read, refuse_write, refuse_step}
+use Rattle.registers.specs.Accepted.{accepted, accept_read, accept_write, accept_step}
 
 module _ {S : Type 0} (r : Model S) (law : Plain r) where
   pub read_begun : (x y : S) (p : ℕ) → r.sound x → Reads r x p (Ok tt) y → ReadBegins p (r.meaning x) (r.meaning y) × r.sound y × (p < 16)

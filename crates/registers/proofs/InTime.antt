@@ -3,9 +3,8 @@ use Rattle.std.proofs.Common.{◌≡◌, ℕ, ◌+◌, ◌<◌, Bool, true, fals
 use Rattle.std.proofs.lemmas.Bool.{eqb-true, eqb-false}
 use Rattle.registers.specs.declared.answers.Became.{Became}
 use Rattle.registers.specs.declared.answers.Became.TheVariants.{Going, Read, Written}
-use Rattle.registers.specs.declared.answers.Limits.{Limits}
 use Rattle.registers.specs.Meaning.{Meaning, Doing, idle, busy, reading, writing}
-use Rattle.registers.specs.Model.{Model, Plain, GoesOn, Unspent, Undisturbed}
+use Rattle.registers.specs.Model.{Limits, Model, Plain, GoesOn, Unspent, Undisturbed}
 use Rattle.registers.specs.Runs.{Event, Run, done, read, write, access, own_accesses, Within, EndsInTime}
 use Rattle.registers.proofs.Callers as caller
 

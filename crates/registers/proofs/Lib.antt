@@ -1,3 +1,5 @@
 pub mod Levels
 pub mod Callers
 pub mod InTime
+pub mod Singles
+pub mod Ranges

@@ -1,11 +1,16 @@
 -- A head register as its calls show it, and what they owe to its meaning.
 use Rattle.std.specs.Prelude.{◌≡◌, ℕ, ◌+◌, ◌<◌, ◌≤◌, min, max, None, Result, ◌≢◌}
 use Rattle.registers.specs.declared.answers.Refusal.{Refusal}
-use Rattle.registers.specs.declared.answers.Limits.{Limits}
 use Rattle.registers.specs.declared.answers.Became.{Became}
 use Rattle.registers.specs.declared.answers.Became.TheVariants.{Going, Read, Written}
 use Rattle.registers.specs.Meaning.{Meaning, Doing, idle, busy, reading, writing, is_busy, level}
 use Rattle.registers.specs.Refusals.{refuse_read, refuse_write, refuse_step, Decided}
+
+-- what a register states of itself: the largest number it can hold, and the most accesses of a read and of a write
+pub record Limits : Type 0 where
+  pub bound : ℕ
+  pub read : ℕ
+  pub write : ℕ
 
 -- A register of type S: what it states of itself; what it means; what every register in use keeps (where a type carries
 -- its invariant itself, `sound` holds of every value); and what accepted calls make of it: it is new; a processor begins a
@@ -31,7 +36,7 @@ over f r = record {
   steps = λ x p b y. r.steps (f x) p b (f y);
 }
 
--- what code tells of the stated limits: a count of accesses that does not fit 32 bits is told as the largest that does
+-- what a register's constants tell of its stated limits: a count of accesses that does not fit 32 bits is told as the largest that does
 pub record Told (stated told : Limits) : Type 0 where
   pub bound : told.bound ≡ stated.bound
   pub read : told.read ≡ min stated.read 4294967295

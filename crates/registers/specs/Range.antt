@@ -1,7 +1,7 @@
 -- The range: one word R that all share, and an own number for each processor. A read sets the own number to the larger of
 -- itself and R, and answers it. A write of n above the own number stores n in both; any other only reads R. Each is one
 -- access. R can fall, own numbers cannot.
-use Rattle.std.specs.Prelude.{◌≡◌, ℕ, max, cond, List, replicate, Some, None, Option, nat_lt, slice_index, slice_set}
+use Rattle.std.specs.Prelude.{◌≡◌, ℕ, max, cond, List, replicate, Some, None, nat_lt, slice_index, slice_set}
 use Rattle.registers.specs.declared.answers.Became.{Became}
 use Rattle.registers.specs.declared.answers.Became.TheVariants.{Read, Written}
 use Rattle.registers.specs.declared.single.Single as code
@@ -11,7 +11,7 @@ use Rattle.registers.specs.declared.range_state.RangeState as state
 use Rattle.registers.specs.Meaning.{Meaning}
 use Rattle.registers.specs.Model.{Model, over}
 use Rattle.registers.specs.Most.{greatest}
-use Rattle.registers.specs.Operations.{at, meaning_of}
+use Rattle.registers.specs.Operations.{at, meaning_of, StepsBy}
 use Rattle.registers.specs.Single.{single_op}
 
 abbrev pub own_of : List ℕ → ℕ → ℕ
@@ -43,10 +43,6 @@ range_stepped w p a = record {
   operations = slice_set w.operations p None;
 }
 
-abbrev pub RangeSteps : state.RangeState → ℕ → Option code.Single → Became → state.RangeState → Type 0
-RangeSteps w p None b v = ⊥
-RangeSteps w p (Some a) b v = (b ≡ range_answer a w.shared (own_of w.own p)) × (v ≡ range_stepped w p a)
-
 -- a processor's floor is its own number
 abbrev pub range_meaning : state.RangeState → Meaning
 range_meaning w = meaning_of single_op w.operations (own_of w.own) (greatest w.own)
@@ -60,7 +56,7 @@ range_on_state = record {
   starts = λ w. w ≡ range_new;
   reads = λ w p v. v ≡ range_begun w p single.Read;
   writes = λ w p n v. v ≡ range_begun w p (single.Write n);
-  steps = λ w p b v. RangeSteps w p (at w.operations p) b v;
+  steps = λ w p b v. StepsBy (λ a. range_answer a w.shared (own_of w.own p)) (range_stepped w p) (at w.operations p) b v;
 }
 
 abbrev pub range_model : Model range.Range

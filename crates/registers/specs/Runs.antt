@@ -2,9 +2,8 @@
 -- as it was, so a run does not show them.
 use Rattle.std.specs.Prelude.{ℕ, ◌+◌, ◌<◌, cond, List, [], ◌∷◌, Ok, ◌==◌}
 use Rattle.registers.specs.declared.answers.Became.{Became}
-use Rattle.registers.specs.declared.answers.Limits.{Limits}
 use Rattle.registers.specs.Meaning.{Doing, idle, busy, reading, writing}
-use Rattle.registers.specs.Model.{Model, Reads, Writes, Steps}
+use Rattle.registers.specs.Model.{Limits, Model, Reads, Writes, Steps}
 
 pub data Event : Type 0 where
   began_read : ℕ → Event

@@ -1,5 +1,5 @@
 -- The word: one number. A read answers it; a write of n stores the larger of it and n. Each is one access.
-use Rattle.std.specs.Prelude.{◌≡◌, ℕ, max, replicate, Some, None, Option, slice_set}
+use Rattle.std.specs.Prelude.{◌≡◌, ℕ, max, replicate, Some, None, slice_set}
 use Rattle.registers.specs.declared.answers.Became.{Became}
 use Rattle.registers.specs.declared.answers.Became.TheVariants.{Read, Written}
 use Rattle.registers.specs.declared.single.Single as code
@@ -8,7 +8,7 @@ use Rattle.registers.specs.declared.word_state.Word as word
 use Rattle.registers.specs.declared.word_state.WordState as state
 use Rattle.registers.specs.Meaning.{Meaning}
 use Rattle.registers.specs.Model.{Model, over}
-use Rattle.registers.specs.Operations.{at, meaning_of}
+use Rattle.registers.specs.Operations.{at, meaning_of, StepsBy}
 use Rattle.registers.specs.Single.{single_op}
 
 -- the number after an access, and what the access says
@@ -29,10 +29,6 @@ word_begun w p a = record { number = w.number; operations = slice_set w.operatio
 abbrev pub word_stepped : state.WordState → ℕ → code.Single → state.WordState
 word_stepped w p a = record { number = number_after a w.number; operations = slice_set w.operations p None }
 
-abbrev pub WordSteps : state.WordState → ℕ → Option code.Single → Became → state.WordState → Type 0
-WordSteps w p None b v = ⊥
-WordSteps w p (Some a) b v = (b ≡ word_answer a w.number) × (v ≡ word_stepped w p a)
-
 -- every processor's floor is the number
 abbrev pub word_meaning : state.WordState → Meaning
 word_meaning w = meaning_of single_op w.operations (λ _. w.number) w.number
@@ -46,7 +42,7 @@ word_on_state = record {
   starts = λ w. w ≡ word_new;
   reads = λ w p v. v ≡ word_begun w p single.Read;
   writes = λ w p n v. v ≡ word_begun w p (single.Write n);
-  steps = λ w p b v. WordSteps w p (at w.operations p) b v;
+  steps = λ w p b v. StepsBy (λ a. word_answer a w.number) (word_stepped w p) (at w.operations p) b v;
 }
 
 abbrev pub word_model : Model word.Word

@@ -21,11 +21,3 @@ pub enum Became {
     // a write ended
     Written,
 }
-
-// What a register states of itself: the largest number it can hold, and the most accesses of a read and of a write.
-#[derive(Clone, Copy)]
-pub struct Limits {
-    pub bound: u32,
-    pub read: u32,
-    pub write: u32,
-}

@@ -1,8 +1,9 @@
+ghost use Rattle.std.specs.Prelude.{refl};
 ghost use Rattle.registers.specs.Range.{range_model};
 ghost use Rattle.registers.specs.RangeLaw.{range_plain};
 
-use crate::answers::{Became, Limits, Refusal};
-use crate::operations::{check_read, check_write, find_under_way};
+use crate::answers::{Became, Refusal};
+use crate::operations::{begin_read, begin_write, take_under_way};
 use crate::range_state::{Range, RangeState};
 use crate::register::HeadRegister;
 use crate::single::Single;
@@ -14,17 +15,17 @@ impl HeadRegister for Range {
 
     const WRITE_ACCESSES: u32 = 1;
 
+    ghost BOUND = { 256 };
+
+    ghost READ_ACCESSES = { 1 };
+
+    ghost WRITE_ACCESSES = { 1 };
+
     ghost model = { range_model };
 
-    ghost plain = { range_plain };
+    ghost told = { record { bound = refl; read = refl; write = refl } };
 
-    fn limits() -> Limits {
-        Limits {
-            bound: Self::BOUND,
-            read: Self::READ_ACCESSES,
-            write: Self::WRITE_ACCESSES,
-        }
-    }
+    ghost plain = { range_plain };
 
     fn fresh() -> Self {
         Range {
@@ -37,20 +38,16 @@ impl HeadRegister for Range {
     }
 
     fn begin_read(&mut self, processor: u32) -> Result<(), Refusal> {
-        check_read(&self.state.operations, processor)?;
-        self.state.operations[processor as usize] = Some(Single::Read);
-        Ok(())
+        begin_read(&mut self.state.operations, processor, Single::Read)
     }
 
     fn begin_write(&mut self, processor: u32, n: u32) -> Result<(), Refusal> {
-        check_write(&self.state.operations, processor, n, Self::BOUND)?;
-        self.state.operations[processor as usize] = Some(Single::Write(n));
-        Ok(())
+        let write = Single::Write(n);
+        begin_write(&mut self.state.operations, processor, n, Self::BOUND, write)
     }
 
     fn step(&mut self, processor: u32) -> Result<Became, Refusal> {
-        let operation = find_under_way(&self.state.operations, processor)?;
-        self.state.operations[processor as usize] = None;
+        let operation = take_under_way(&mut self.state.operations, processor)?;
         let own = self.state.own[processor as usize];
         match operation {
             Single::Read => {

@@ -5,7 +5,8 @@ ghost use Rattle.registers.specs.Single.{single_op};
 
 use crate::single::Single;
 
-// What a range holds: the word R that all share, each processor's own number, and the operation of each.
+// What a range holds: the word R that all share, each processor's own number, and the operation of each. The operations
+// are an array of their own, apart from the own numbers, since one function decides the refusals of every register by it.
 #[derive(Clone, Copy)]
 pub struct RangeState {
     pub(crate) shared: u32,

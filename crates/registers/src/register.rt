@@ -1,8 +1,8 @@
 // What a head register is: one number that sixteen processors read and raise, one access of the shared memory at a time.
-ghost use Rattle.std.specs.Prelude.{◌≡◌};
+ghost use Rattle.std.specs.Prelude.{◌≡◌, ℕ};
 ghost use Rattle.registers.specs.Model.{Model, Plain, Strict, Told, Reads, Writes, Steps};
 
-use crate::answers::{Became, Limits, Refusal};
+use crate::answers::{Became, Refusal};
 
 pub trait HeadRegister: Sized {
     // the largest number that can be written
@@ -13,12 +13,15 @@ pub trait HeadRegister: Sized {
 
     const WRITE_ACCESSES: u32;
 
+    // the same three in clauses
+    ghost BOUND: { ℕ };
+
+    ghost READ_ACCESSES: { ℕ };
+
+    ghost WRITE_ACCESSES: { ℕ };
+
     // what it means, and what its calls make of it
     ghost model: { Model Self };
-
-    // The three constants, for generic code, to which a constant alone says nothing.
-    fn limits() -> Limits
-        ensures { Told model.stated result };
 
     // A new register: every processor is idle, floors and ceiling are 1.
     fn fresh() -> Self
@@ -36,7 +39,10 @@ pub trait HeadRegister: Sized {
     fn step(&mut self, processor: u32) -> Result<Became, Refusal>
         ensures { Steps model self.old processor result self.new };
 
-    // what every register proves of its model: a law by its place, below the last function
+    // what every register proves, laws by their place below the last function: its constants are what its model states,
+    // and its model keeps the plain meaning
+    ghost told: { Told model.stated (record { bound = BOUND; read = READ_ACCESSES; write = WRITE_ACCESSES }) };
+
     ghost plain: { Plain model };
 }
 

@@ -1,10 +1,10 @@
 -- Each reader takes exactly what is written, if it gives the value of its definition.
-use Rattle.std.proofs.Common.{◌≡◌, ℕ, ◌^◌, ◌<◌, Bool, true, eqb, leb, List, [], ◌∷◌, ◌++◌, length, decimal, Option, Result, sym, refl, ap, ◌∙◌, ⊎_elim, arith}
+use Rattle.std.proofs.Common.{◌≡◌, ℕ, ◌^◌, ◌<◌, Bool, true, eqb, leb, List, [], ◌∷◌, ◌++◌, length, decimal, Some, Option, Result, sym, refl, ap, ◌∙◌, ⊎_elim, arith}
 use Rattle.std.proofs.lemmas.Bool.{cond-true, cond-false, cases_Bool, le-leb, leb-true, eq-eqb, eqb-true, and_from}
 use Rattle.text.specs.Bytes.{plain_byte, plain_text}
-use Rattle.text.specs.Exact.{Between, Any, ReadsNumber, ReadsPair, ReadsEnd, ReadsField, PassesWhole}
+use Rattle.text.specs.Exact.{Between, AnyValue, ReadsNumber, ReadsPair, ReadsEnd, ReadsField, PassesWhole}
 use Rattle.text.specs.Figures.{within}
-use Rattle.text.specs.Pairs.{Step, pair, gap, field, never, Spells}
+use Rattle.text.specs.Pairs.{Step, word, pair, gap, field, never, Spells}
 use Rattle.text.specs.Whole.{whole, from_bad, ended}
 use Rattle.text.specs.declared.fault.Fault.{Fault}
 use Rattle.text.proofs.Answered.{cond_ok}
@@ -18,48 +18,41 @@ reads_number low most w r small is = record {
   complete = λ n l h e. is ∙ ap (within low most) e ∙ within_complete low most n small l h;
 }
 
-module _ (key : List ℕ) (low most : ℕ) (s : List ℕ) (r : Step ℕ) (small : most < 2 ^ 64) where
-  pub reads_number_pair : r ≡ pair key (within low most) s → ReadsPair key (within low most) decimal (Between low most) s r
-  reads_number_pair is = record {
+-- what makes a rule for words the inverse of how values are written
+pub record Inverse {T : Type 0} (rule : List ℕ → Option T) (text : T → List ℕ) (good : T → Type 0) : Type 0 where
+  pub sound : (w : List ℕ) (v : T) → rule w ≡ Some v → good v × (w ≡ text v)
+  pub complete : (v : T) → good v → rule (text v) ≡ Some v
+  pub whole : (v : T) → good v → word (text v) ≡ text v
+
+pub numbers : (low most : ℕ) → most < 2 ^ 64 → Inverse (within low most) decimal (Between low most)
+numbers low most small = record {
+  sound = λ w v e. let q = within_sound low most v w small e in ((q.1, q.2), q.0);
+  complete = λ v good. within_complete low most v small good.0 good.1;
+  whole = λ v good. decimal_whole v (omega (arith, good.1));
+}
+
+pub words : {W : Type 0} (spelled : List ℕ → Option W) (text : W → List ℕ) → Spells spelled text → Inverse spelled text AnyValue
+words spelled text laws = record { sound = λ w v e. (tt, laws.back w v e); complete = λ v _. laws.there v; whole = λ v _. laws.whole v }
+
+module _ {T : Type 0} {rule : List ℕ → Option T} {text : T → List ℕ} {good : T → Type 0} (inverse : Inverse rule text good) (key s : List ℕ) (r : Step T) where
+  pub reads_pair : r ≡ pair key rule s → ReadsPair key rule text good s r
+  reads_pair is = record {
     is = is;
     sound = λ v t e.
-        let p = pair_sound key (within low most) s v t (sym is ∙ e) in
-        let q = within_sound low most v p.0 small p.2 in
-        ((q.1, q.2), p.1 ∙ ap (λ w. key ++ (61 ∷ (w ++ t))) q.0);
-    complete = λ v c t good stop e.
-        is ∙ ap (pair key (within low most)) e
-        ∙ pair_complete key (within low most) (decimal v) v c t (within_complete low most v small good.0 good.1) (decimal_whole v (omega (arith, good.1))) stop;
+        let p = pair_sound key rule s v t (sym is ∙ e) in
+        let q = inverse.sound p.0 v p.2 in
+        (q.0, p.1 ∙ ap (λ w. key ++ (61 ∷ (w ++ t))) q.1);
+    complete = λ v c t good stop e. is ∙ ap (pair key rule) e ∙ pair_complete key rule (text v) v c t (inverse.complete v good) (inverse.whole v good) stop;
   }
 
-  pub reads_number_field : r ≡ field key (within low most) never s → ReadsField key (within low most) decimal (Between low most) s r
-  reads_number_field is = record {
+  pub reads_field : r ≡ field key rule never s → ReadsField key rule text good s r
+  reads_field is = record {
     is = is;
     sound = λ v t e.
-        let p = field_sound key (within low most) never s v t (sym is ∙ e) in
-        let q = within_sound low most v p.0 small p.2 in
-        ((q.1, q.2), p.1 ∙ ap (λ w. key ++ (61 ∷ (w ++ (32 ∷ t)))) q.0);
-    complete = λ v t good e.
-        is ∙ ap (field key (within low most) never) e
-        ∙ field_complete key (within low most) never (decimal v) v t (within_complete low most v small good.0 good.1) (decimal_whole v (omega (arith, good.1)));
-  }
-
-module _ {W : Type 0} (key : List ℕ) (spelled : List ℕ → Option W) (text : W → List ℕ) (laws : Spells spelled text) (s : List ℕ) (r : Step W) where
-  pub reads_word_pair : r ≡ pair key spelled s → ReadsPair key spelled text Any s r
-  reads_word_pair is = record {
-    is = is;
-    sound = λ v t e.
-        let p = pair_sound key spelled s v t (sym is ∙ e) in
-        (tt, p.1 ∙ ap (λ w. key ++ (61 ∷ (w ++ t))) (laws.back p.0 v p.2));
-    complete = λ v c t good stop e. is ∙ ap (pair key spelled) e ∙ pair_complete key spelled (text v) v c t (laws.there v) (laws.whole v) stop;
-  }
-
-  pub reads_word_field : r ≡ field key spelled never s → ReadsField key spelled text Any s r
-  reads_word_field is = record {
-    is = is;
-    sound = λ v t e.
-        let p = field_sound key spelled never s v t (sym is ∙ e) in
-        (tt, p.1 ∙ ap (λ w. key ++ (61 ∷ (w ++ (32 ∷ t)))) (laws.back p.0 v p.2));
-    complete = λ v t good e. is ∙ ap (field key spelled never) e ∙ field_complete key spelled never (text v) v t (laws.there v) (laws.whole v);
+        let p = field_sound key rule never s v t (sym is ∙ e) in
+        let q = inverse.sound p.0 v p.2 in
+        (q.0, p.1 ∙ ap (λ w. key ++ (61 ∷ (w ++ (32 ∷ t)))) q.1);
+    complete = λ v t good e. is ∙ ap (field key rule never) e ∙ field_complete key rule never (text v) v t (inverse.complete v good) (inverse.whole v good);
   }
 
 pub reads_end : (last : Bool) (s : List ℕ) (r : Step (Unit {0})) → r ≡ gap last s → ReadsEnd last s r

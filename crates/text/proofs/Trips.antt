@@ -7,15 +7,15 @@ use Rattle.text.specs.declared.fault.Fault.{Fault}
 use Rattle.text.specs.declared.fault.Refusal.TheVariants.{OtherKey, BadValue}
 use Rattle.text.specs.Figures.{number, from_low, within}
 use Rattle.text.specs.Pairs.{keyed, stops, word, after, Step, fault, or_else, then, pair, gap_at, gap, field, ender}
-use Rattle.text.proofs.Answered.{some_inj, none_some, cond_some, ok_inj, err_ok}
+use Rattle.text.proofs.Answered.{some_inj, cond_some, ok_inj}
 use Rattle.text.proofs.Numbers.{own, number_sound, number_complete}
 use Rattle.text.proofs.Words.{goes_from}
 
 -- keys
 keyed_sound : (ks s t : List ℕ) → keyed ks s ≡ Some t → s ≡ ks ++ (61 ∷ t)
-keyed_sound [] [] t e = absurd (none_some e)
+keyed_sound [] [] t e = cc
 keyed_sound [] (c ∷ cs) t e = let p = cond_some _ _ _ e in λ i. eqb-true c 61 p.0 i ∷ some_inj p.1 i
-keyed_sound (k ∷ ks) [] t e = absurd (none_some e)
+keyed_sound (k ∷ ks) [] t e = cc
 keyed_sound (k ∷ ks) (c ∷ cs) t e = let p = cond_some _ _ _ e in λ i. eqb-true c k p.0 i ∷ keyed_sound ks cs t p.1 i
 
 keyed_complete : (ks t : List ℕ) → keyed ks (ks ++ (61 ∷ t)) ≡ Some t
@@ -54,7 +54,7 @@ decimal_whole n h = digits_whole (decimal n) (digits_decimal own n h)
 
 -- numbers
 from_low_some : (low : ℕ) (o : Option ℕ) (n : ℕ) → from_low low o ≡ Some n → (o ≡ Some n) × (low ≤ n)
-from_low_some low None n e = absurd (none_some e)
+from_low_some low None n e = cc
 from_low_some low (Some m) n e =
     let p = cond_some _ _ _ e in
     let same : m ≡ n = some_inj p.1 in
@@ -76,20 +76,20 @@ within_complete low most n small l h = ap (from_low low) (number_complete most n
 pub then_ok : {T U : Type 0} (r : Step T) (k : T → List ℕ → Step U) (y : U × List ℕ) → then r k ≡ Ok y → (v : T) × (t : List ℕ) × (r ≡ Ok (v, t)) × (k v t ≡ Ok y)
 unfolding then
 then_ok (Ok p) k y e = (p.0, p.1, refl, e)
-then_ok (Err f) k y e = absurd (err_ok e)
+then_ok (Err f) k y e = cc
 
 -- the same, for a proof that goes on under the step
 pub then_on : {T U P : Type 0} (r : Step T) (k : T → List ℕ → Step U) (y : U × List ℕ) → then r k ≡ Ok y → ((v : T) (t : List ℕ) → r ≡ Ok (v, t) → k v t ≡ Ok y → P) → P
 unfolding then
 then_on (Ok p) k y e on = on p.0 p.1 refl e
-then_on (Err f) k y e on = absurd (err_ok e)
+then_on (Err f) k y e on = cc
 
 pub then_at : {T U : Type 0} {r : Step T} {v : T} {t : List ℕ} (k : T → List ℕ → Step U) → r ≡ Ok (v, t) → then r k ≡ k v t
 unfolding then
 then_at k e = ap (λ x. then x k) e
 
 or_else_ok : {T U : Type 0} (o : Option T) (f : Fault) (k : T → Step U) (y : U × List ℕ) → or_else o f k ≡ Ok y → (v : T) × (o ≡ Some v) × (k v ≡ Ok y)
-or_else_ok None f k y e = absurd (err_ok e)
+or_else_ok None f k y e = cc
 or_else_ok (Some v) f k y e = (v, refl, e)
 
 module _ {T : Type 0} (key : List ℕ) (rule : List ℕ → Option T) where
@@ -117,17 +117,17 @@ ender_stops true = refl
 ender_stops false = refl
 
 gap_at_sound : (last : Bool) (s0 s t : List ℕ) (u : Unit {0}) → gap_at last s0 s ≡ Ok (u, t) → s ≡ ender last ∷ t
-gap_at_sound true s0 [] t u e = absurd (err_ok e)
-gap_at_sound false s0 [] t u e = absurd (err_ok e)
+gap_at_sound true s0 [] t u e = cc
+gap_at_sound false s0 [] t u e = cc
 gap_at_sound true s0 (c ∷ cs) t u e =
     ⊎_elim
     (λ b. λ i. eqb-true c 10 b i ∷ ap (λ x. x.1) (ok_inj (sym (cond-true _ _ _ b) ∙ e)) i)
-    (λ b. absurd (err_ok (sym (cond-false _ _ _ b) ∙ e)))
+    (λ b. (cc (sym (cond-false _ _ _ b) ∙ e)))
     (cases_Bool (eqb c 10))
 gap_at_sound false s0 (c ∷ cs) t u e =
     ⊎_elim
     (λ b. λ i. eqb-true c 32 b i ∷ ap (λ x. x.1) (ok_inj (sym (cond-true _ _ _ b) ∙ e)) i)
-    (λ b. absurd (err_ok (sym (cond-false _ _ _ b) ∙ e)))
+    (λ b. (cc (sym (cond-false _ _ _ b) ∙ e)))
     (cases_Bool (eqb c 32))
 
 pub gap_sound : (last : Bool) (s t : List ℕ) (u : Unit {0}) → gap last s ≡ Ok (u, t) → s ≡ ender last ∷ t

@@ -1,22 +1,28 @@
 -- Laws of `from_bad`, `ended` and `after_bytes`.
-use Rattle.std.proofs.Common.{◌≡◌, ℕ, suc, ◌+◌, ◌-◌, ◌<◌, true, false, eqb, List, [], ◌∷◌, ◌++◌, length, get_or, drop, sym, refl, ap, ◌∙◌, arith}
-use Rattle.std.proofs.lemmas.List.{at_drop_more, drop_more}
-use Rattle.std.proofs.lemmas.Bool.{cond-true, cond-false, eq-eqb, ne_eqb, and_parts, and_from}
+use Rattle.std.proofs.Common.{◌≡◌, ℕ, suc, ◌+◌, ◌-◌, ◌<◌, true, false, cond, not, eqb, nat_lt, List, [], ◌∷◌, ◌++◌, length, get_or, drop, Some, None, sym, refl, ap, ◌∙◌, arith}
+use Rattle.std.proofs.lemmas.Bool.{cond-true, cond_both, ltb-false, and_parts, and_from}
+use Rattle.std.proofs.lemmas.List.{drop_all}
+use Rattle.std.specs.List.{position, position_or_len}
+use Rattle.std.specs.Option.{unwrap_or}
 use Rattle.text.specs.Bytes.{plain_byte, plain_text}
-use Rattle.text.specs.Whole.{ended, from_bad, after_bytes}
+use Rattle.text.specs.Whole.{ended, from_bad}
 
-module _ (s : List ℕ) (i : ℕ) (h : i < length s) where
-  pub bad_more : plain_byte (get_or s i 0) ≡ true → from_bad (drop i s) ≡ from_bad (drop (i + 1) s)
-  bad_more e = at_drop_more from_bad s i 0 h ∙ cond-true _ _ _ e
+-- the first byte that is not plain
+first_bad : (s : List ℕ) → drop (position_or_len (λ c. not (plain_byte c)) s) s ≡ from_bad s
+first_bad [] = refl
+first_bad (c ∷ cs) =
+    let n = position_or_len (λ x. not (plain_byte x)) cs in
+    elim (plain_byte c) as (λ b. drop (cond (not (not b)) (1 + n) 0) (c ∷ cs) ≡ cond b (from_bad cs) (c ∷ cs)) [
+      | true ↦ (let more : 1 + n ≡ suc n = omega arith in ap (λ k. drop k (c ∷ cs)) more ∙ first_bad cs)
+      | false ↦ refl
+    ]
 
-  pub bad_stop : plain_byte (get_or s i 0) ≡ false → from_bad (drop i s) ≡ drop i s
-  bad_stop e = at_drop_more from_bad s i 0 h ∙ cond-false _ _ _ e ∙ sym (drop_more s i 0 h)
-
-  pub bytes_line : (line byte : ℕ) → get_or s i 0 ≡ 10 → after_bytes line byte (drop i s) ≡ after_bytes (line + 1) 1 (drop (i + 1) s)
-  bytes_line line byte e = at_drop_more (after_bytes line byte) s i 0 h ∙ cond-true _ _ _ (eq-eqb _ _ e)
-
-  pub bytes_on : (line byte : ℕ) → (get_or s i 0 ≡ 10 → ⊥) → after_bytes line byte (drop i s) ≡ after_bytes line (byte + 1) (drop (i + 1) s)
-  bytes_on line byte e = at_drop_more (after_bytes line byte) s i 0 h ∙ cond-false _ _ _ (ne_eqb _ _ e)
+pub from_first_bad : (s : List ℕ) → drop (unwrap_or (position (λ c. not (plain_byte c)) s) (length s)) s ≡ from_bad s
+from_first_bad s =
+    let n = position_or_len (λ c. not (plain_byte c)) s in
+    cond_both (nat_lt n (length s)) (Some n) None (λ o. drop (unwrap_or o (length s)) s ≡ from_bad s)
+    (λ _. first_bad s)
+    (λ out. drop_all (length s) s (omega arith) ∙ sym (drop_all n s (ltb-false _ _ out)) ∙ first_bad s)
 
 pub ended_last : (s : List ℕ) → 0 < length s → eqb (get_or s (length s - 1) 0) 10 ≡ ended s
 ended_last [] h = absurd (omega arith)
@@ -24,10 +30,6 @@ ended_last (c ∷ []) h = refl
 ended_last (c ∷ d ∷ cs) h =
     let down : length (c ∷ d ∷ cs) - 1 ≡ suc (length (d ∷ cs) - 1) = omega arith in
     ap (λ n. eqb (get_or (c ∷ d ∷ cs) n 0) 10) down ∙ ended_last (d ∷ cs) (omega arith)
-
-pub ended_none : (s : List ℕ) → length s ≡ 0 → ended s ≡ true
-ended_none [] h = refl
-ended_none (c ∷ cs) h = absurd (omega arith)
 
 -- parts that are plain and ended
 pub plain_append : (xs ys : List ℕ) → plain_text xs ≡ true → plain_text ys ≡ true → plain_text (xs ++ ys) ≡ true

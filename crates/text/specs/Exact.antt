@@ -17,8 +17,8 @@ pub record ReadsNumber (low most : ℕ) (w : List ℕ) (r : Option ℕ) : Type 0
 abbrev pub Between : ℕ → ℕ → ℕ → Type 0
 Between low most n = (low ≤ n) × (n ≤ most)
 
-abbrev pub Any : {W : Type 0} → W → Type 0
-Any x = Unit {0}
+abbrev pub AnyValue : {W : Type 0} → W → Type 0
+AnyValue x = Unit {0}
 
 -- a pair: exactly `key=value` before a space or a newline, and reading then goes on there
 pub record ReadsPair {T : Type 0} (key : List ℕ) (rule : List ℕ → Option T) (text : T → List ℕ) (good : T → Type 0) (s : List ℕ) (r : Step T) : Type 0 where

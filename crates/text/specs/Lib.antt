@@ -1,6 +1,8 @@
 pub mod Bytes
 pub mod Figures
 pub mod Pairs
+pub mod Spelled
+pub mod SpelledLaws
 pub mod Whole
 pub mod Written
 pub mod WrittenLaws

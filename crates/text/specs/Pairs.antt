@@ -77,3 +77,11 @@ pub record Spells {W : Type 0} (spelled : List ℕ → Option W) (text : W → L
   pub back : (w : List ℕ) (x : W) → spelled w ≡ Some x → w ≡ text x
   pub whole : (x : W) → word (text x) ≡ text x
   pub plain : (x : W) → plain_text (text x) ≡ true
+
+-- Reading by a rule of which it is known only what it gives for a word: whatever function of the word that is, it is this
+-- function's pair, or pair and end, that is read.
+abbrev pub ReadsBy : {T : Type 0} → (List ℕ → Option T → Type 0) → List ℕ → List ℕ → Step T → Type 0
+ReadsBy {T} gives key s r = (rule : List ℕ → Option T) → ((w : List ℕ) (o : Option T) → gives w o → o ≡ rule w) → r ≡ pair key rule s
+
+abbrev pub FieldBy : {T : Type 0} → (List ℕ → Option T → Type 0) → List ℕ → List ℕ → Step T → Type 0
+FieldBy {T} gives key s r = (rule : List ℕ → Option T) → ((w : List ℕ) (o : Option T) → gives w o → o ≡ rule w) → r ≡ field key rule never s

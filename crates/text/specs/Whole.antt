@@ -1,5 +1,5 @@
 -- What is asked of a whole text, and where a byte of it lies.
-use Rattle.std.specs.Prelude.{◌≡◌, ℕ, ◌+◌, ◌-◌, Bool, true, cond, List, [], ◌∷◌, ◌++◌, length, take, Ok, Err, Result, ◌==◌, nat_le}
+use Rattle.std.specs.Prelude.{◌≡◌, ℕ, ◌+◌, ◌-◌, Bool, true, cond, List, [], ◌∷◌, ◌++◌, length, take, count_by, Ok, Err, Result, ◌==◌, nat_le}
 use Rattle.text.specs.declared.fault.Fault.{Fault}
 use Rattle.text.specs.declared.fault.PlacedFault.{PlacedFault}
 use Rattle.text.specs.declared.fault.Refusal.TheVariants.{TooLong, BadByte, Unended}
@@ -34,8 +34,7 @@ unfoldable pub placed : List ℕ → Fault → PlacedFault
 placed s f = let at = after_bytes 1 1 (take (length s - f.left) s) in record { refusal = f.refusal; line = at.0; byte = at.1 }
 
 abbrev pub newlines : List ℕ → ℕ
-newlines [] = 0
-newlines (c ∷ cs) = cond (c == 10) 1 0 + newlines cs
+newlines s = count_by (λ c. c == 10) s
 
 -- a line and a byte, both from 1, that come after these bytes: the newlines say which line, and the bytes of the
 -- unfinished line which byte

@@ -1,155 +1,121 @@
 // Reading pair by pair.
 ghost use Rattle.std.specs.Prelude.{◌≡◌, ℕ, ◌≤◌, List, length, decimal, Option};
+ghost use Rattle.std.specs.Fn.{FnOnceReturnsAt};
+ghost use Rattle.std.specs.List.{position};
 ghost use Rattle.std.specs.Option.{option_map};
-ghost use Rattle.std.specs.Str.{bytes_eq};
-ghost use Rattle.text.specs.Exact.{Between, Any, ReadsPair, ReadsEnd, ReadsField};
+ghost use Rattle.std.specs.Range.{range_inclusive_start, range_inclusive_end};
+ghost use Rattle.text.specs.Exact.{Between, AnyValue, ReadsPair, ReadsEnd, ReadsField};
 ghost use Rattle.text.specs.Figures.{within};
-ghost use Rattle.text.specs.Pairs.{keyed, word, outcome, Spells};
+ghost use Rattle.text.specs.Pairs.{keyed, stops, word, after, ender, outcome, ReadsBy, FieldBy};
 
 use crate::fault::{Fault, Refusal};
 use crate::figures::read_within;
 use crate::reader::Reader;
-
-// A value that a word spells.
-pub trait Spelled: Sized {
-    ghost spells: { List ℕ → Option Self };
-
-    ghost text: { Self → List ℕ };
-
-    ghost laws: { Spells spells text };
-
-    fn from_word(word: &[u8]) -> Option<Self>
-        ensures { result ≡ spells word.now };
-
-    fn to_word(&self) -> &'static [u8]
-        ensures { result.now ≡ text self.now };
-}
-
-// Whether a word is this text.
-pub fn is_word(word: &[u8], text: &[u8]) -> bool
-    ensures { result ≡ bytes_eq word.now text.now }
-{
-    word == text
-}
+use crate::spelled::Spelled;
+use std::ops::RangeInclusive;
 
 // What is left after `key` and `=`.
 fn after_key<'a>(text: &'a [u8], key: &[u8]) -> Option<&'a [u8]>
     ensures { option_map (λ x. x.now) result ≡ keyed key.now text.now }
 {
-    let n = key.len();
-    if text.len() <= n {
-        return None;
-    }
-    for i in 0..n {
-        if text[i] != key[i] {
-            return None;
-        }
-    }
-    if text[n] != b'=' {
-        return None;
-    }
-    Some(&text[n + 1..])
+    text.strip_prefix(key)?.strip_prefix(b"=")
 }
 
-// How many bytes stand before the first space or newline.
-fn word_len(text: &[u8]) -> usize
-    ensures value { result ≡ length (word text.now) }
-    ensures within { result ≤ length text.now }
+fn first_stop(text: &[u8]) -> Option<usize>
+    ensures { result ≡ position stops text.now }
 {
-    let mut n = 0;
-    while n < text.len() && text[n] != b'\n' && text[n] != b' ' {
-        n += 1;
-    }
-    n
+    text.iter().position(|c| matches!(*c, b'\n' | b' '))
+}
+
+// What stands before the first space or newline, and what is left from there on.
+fn split_word(text: &[u8]) -> (&[u8], &[u8])
+    ensures word { result.0.now ≡ word text.now }
+    ensures rest { result.1.now ≡ after text.now }
+{
+    text.split_at(first_stop(text).unwrap_or(text.len()))
+}
+
+// The byte that ends a pair, which may be the last of its line.
+fn end_of(last: bool) -> u8
+    ensures { result ≡ ender last }
+{
+    if last { b'\n' } else { b' ' }
 }
 
 impl<'a> Reader<'a> {
-    // The number at `key`, from `low` to `most`.
-    pub fn number_at(&mut self, key: &[u8], low: u32, most: u32) -> Result<u32, Fault>
-        ensures { ReadsPair key.now (within low most) decimal (Between low most) self.old.rest.now (outcome result self.new.rest.now) }
+    // The value at `key`, by a rule for its word.
+    fn value_at<T, F: FnOnce(&[u8]) -> Option<T>>(
+        &mut self,
+        key: &[u8],
+        rule: F,
+    ) -> Result<T, Fault>
+        requires { F.IsAlwaysCallable rule }
+        ensures { ReadsBy (FnOnceReturnsAt F.FnOnce rule) key.now self.old.rest.now (outcome result self.new.rest.now) }
     {
         let Some(text) = after_key(self.rest, key) else {
-            return Err(Fault {
-                refusal: Refusal::OtherKey,
-                left: self.rest.len(),
-            });
+            return Err(Refusal::OtherKey.at(self.rest));
         };
-        let n = word_len(text);
-        let Some(v) = read_within(&text[0..n], low, most) else {
-            return Err(Fault {
-                refusal: Refusal::BadValue,
-                left: text.len(),
-            });
+        let (word, left) = split_word(text);
+        let Some(value) = rule(word) else {
+            return Err(Refusal::BadValue.at(text));
         };
-        self.rest = &text[n..];
-        Ok(v)
+        self.rest = left;
+        Ok(value)
+    }
+
+    // The same, with the space after it.
+    fn value_field<T: Drop, F: FnOnce(&[u8]) -> Option<T>>(
+        &mut self,
+        key: &[u8],
+        rule: F,
+    ) -> Result<T, Fault>
+        requires { F.IsAlwaysCallable rule }
+        ensures { FieldBy (FnOnceReturnsAt F.FnOnce rule) key.now self.old.rest.now (outcome result self.new.rest.now) }
+    {
+        let value = self.value_at(key, rule)?;
+        self.gap_at(false)?;
+        Ok(value)
+    }
+
+    // The number at `key`, within a range.
+    pub fn number_at(&mut self, key: &[u8], range: RangeInclusive<u32>) -> Result<u32, Fault>
+        ensures { ReadsPair key.now (within (range_inclusive_start range) (range_inclusive_end range)) decimal (Between (range_inclusive_start range) (range_inclusive_end range)) self.old.rest.now (outcome result self.new.rest.now) }
+    {
+        self.value_at(key, |word| read_within(word, &range))
     }
 
     // The value at `key` that is spelled by a word.
     pub fn word_at<W: Spelled>(&mut self, key: &[u8]) -> Result<W, Fault>
-        ensures { ReadsPair key.now W.Spelled.spells W.Spelled.text Any self.old.rest.now (outcome result self.new.rest.now) }
+        ensures { ReadsPair key.now W.Spelled.spells W.Spelled.text AnyValue self.old.rest.now (outcome result self.new.rest.now) }
     {
-        let Some(text) = after_key(self.rest, key) else {
-            return Err(Fault {
-                refusal: Refusal::OtherKey,
-                left: self.rest.len(),
-            });
-        };
-        let n = word_len(text);
-        let Some(v) = W::from_word(&text[0..n]) else {
-            return Err(Fault {
-                refusal: Refusal::BadValue,
-                left: text.len(),
-            });
-        };
-        self.rest = &text[n..];
-        Ok(v)
+        self.value_at(key, |word| W::from_word(word))
     }
 
     // The number at `key`, with the space after it.
-    pub fn number_field(&mut self, key: &[u8], low: u32, most: u32) -> Result<u32, Fault>
-        ensures { ReadsField key.now (within low most) decimal (Between low most) self.old.rest.now (outcome result self.new.rest.now) }
+    pub fn number_field(&mut self, key: &[u8], range: RangeInclusive<u32>) -> Result<u32, Fault>
+        ensures { ReadsField key.now (within (range_inclusive_start range) (range_inclusive_end range)) decimal (Between (range_inclusive_start range) (range_inclusive_end range)) self.old.rest.now (outcome result self.new.rest.now) }
     {
-        let v = self.number_at(key, low, most)?;
-        self.gap_at(false)?;
-        Ok(v)
+        self.value_field(key, |word| read_within(word, &range))
     }
 
     // The value at `key` that is spelled by a word, with the space after it.
     pub fn word_field<W: Spelled + Drop>(&mut self, key: &[u8]) -> Result<W, Fault>
-        ensures { ReadsField key.now W.Spelled.spells W.Spelled.text Any self.old.rest.now (outcome result self.new.rest.now) }
+        ensures { ReadsField key.now W.Spelled.spells W.Spelled.text AnyValue self.old.rest.now (outcome result self.new.rest.now) }
     {
-        let v = self.word_at::<W>(key)?;
-        self.gap_at(false)?;
-        Ok(v)
+        self.value_field(key, |word| W::from_word(word))
     }
 
-    // The end of a pair.
+    // The end of a pair: a newline where it is the last of its line, else a space.
     pub fn gap_at(&mut self, last: bool) -> Result<(), Fault>
         ensures { ReadsEnd last self.old.rest.now (outcome result self.new.rest.now) }
     {
-        let left = self.rest.len();
-        if left == 0 {
-            return Err(Fault {
-                refusal: Refusal::OtherKey,
-                left,
-            });
-        }
-        let c = self.rest[0];
-        if last {
-            if c != b'\n' {
-                return Err(Fault {
-                    refusal: Refusal::Surplus,
-                    left,
-                });
+        match self.rest.split_first() {
+            Some((c, rest)) if *c == end_of(last) => {
+                self.rest = rest;
+                Ok(())
             }
-        } else if c != b' ' {
-            return Err(Fault {
-                refusal: Refusal::OtherKey,
-                left,
-            });
+            Some(_) if last => Err(Refusal::Surplus.at(self.rest)),
+            _ => Err(Refusal::OtherKey.at(self.rest)),
         }
-        self.rest = &self.rest[1..];
-        Ok(())
     }
 }

@@ -1,25 +1,32 @@
 // Numbers in base ten, without leading zeros.
 ghost use Rattle.std.specs.Prelude.{◌≡◌};
+ghost use Rattle.std.specs.Range.{range_inclusive_start, range_inclusive_end};
 ghost use Rattle.text.specs.Exact.{ReadsNumber};
-ghost use Rattle.text.specs.Figures.{number};
+ghost use Rattle.text.specs.Figures.{number, figures};
+
+use std::ops::RangeInclusive;
 
 // The number that all of `word` writes, if it is at most `most`.
 fn read_number(word: &[u8], most: u32) -> Option<u32>
     ensures { result ≡ number most word.now }
 {
-    if word.is_empty() {
-        return None;
+    match word {
+        [] => None,
+        [b'0'] => Some(0),
+        [b'0', ..] => None,
+        _ => read_figures(word, most),
     }
-    if word[0] == b'0' {
-        return if word.len() == 1 { Some(0) } else { None };
-    }
+}
+
+fn read_figures(word: &[u8], most: u32) -> Option<u32>
+    ensures { result ≡ figures most 0 word.now }
+{
     let mut n: u32 = 0;
-    for b in word {
-        let c = *b;
-        if c < b'0' || c > b'9' {
+    for c in word {
+        if !c.is_ascii_digit() {
             return None;
         }
-        let next = u64::from(n) * 10 + u64::from(c - b'0');
+        let next = u64::from(n) * 10 + u64::from(*c - b'0');
         if next > u64::from(most) {
             return None;
         }
@@ -28,12 +35,9 @@ fn read_number(word: &[u8], most: u32) -> Option<u32>
     Some(n)
 }
 
-// The number that all of `word` writes, from `low` to `most`.
-pub(crate) fn read_within(word: &[u8], low: u32, most: u32) -> Option<u32>
-    ensures { ReadsNumber low most word.now result }
+// The number that all of `word` writes, within a range.
+pub(crate) fn read_within(word: &[u8], range: &RangeInclusive<u32>) -> Option<u32>
+    ensures { ReadsNumber (range_inclusive_start range.now) (range_inclusive_end range.now) word.now result }
 {
-    match read_number(word, most) {
-        None => None,
-        Some(n) => { if low <= n { Some(n) } else { None } }
-    }
+    read_number(word, *range.end()).filter(|n| *range.start() <= *n)
 }

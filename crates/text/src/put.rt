@@ -3,6 +3,7 @@ ghost use Rattle.std.specs.Prelude.{◌≡◌, decimal};
 ghost use Rattle.text.specs.Written.{word_pair, number_pair};
 
 use crate::sink::Sink;
+use itoa::Buffer;
 
 pub fn put_bytes<S: Sink<u8>>(s: &mut S, bs: &[u8])
     ensures { S.Sink.took s.old bs.now s.new }
@@ -15,21 +16,8 @@ pub fn put_bytes<S: Sink<u8>>(s: &mut S, bs: &[u8])
 pub fn put_number<S: Sink<u8>>(s: &mut S, n: usize)
     ensures { S.Sink.took s.old (decimal n) s.new }
 {
-    if n < 10 {
-        s.put(b'0' + n as u8);
-        return;
-    }
-    put_number(s, n / 10);
-    s.put(b'0' + (n % 10) as u8);
-}
-
-pub fn put_pair<S: Sink<u8>>(s: &mut S, key: &[u8], n: usize, end: u8)
-    ensures { S.Sink.took s.old (number_pair key.now n end) s.new }
-{
-    put_bytes(s, key);
-    s.put(b'=');
-    put_number(s, n);
-    s.put(end);
+    let mut figures = Buffer::new();
+    put_bytes(s, figures.format(n).as_bytes());
 }
 
 pub fn put_word<S: Sink<u8>>(s: &mut S, key: &[u8], word: &[u8], end: u8)
@@ -39,4 +27,12 @@ pub fn put_word<S: Sink<u8>>(s: &mut S, key: &[u8], word: &[u8], end: u8)
     s.put(b'=');
     put_bytes(s, word);
     s.put(end);
+}
+
+#[tactic(auto, unfolding(crate::specs::Written::number_pair, crate::specs::Written::word_pair))]
+pub fn put_pair<S: Sink<u8>>(s: &mut S, key: &[u8], n: usize, end: u8)
+    ensures { S.Sink.took s.old (number_pair key.now n end) s.new }
+{
+    let mut word = Buffer::new();
+    put_word(s, key, word.format(n).as_bytes(), end);
 }

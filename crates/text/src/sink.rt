@@ -17,6 +17,7 @@ pub struct Counter {
     pub n: usize,
 }
 
+// A lent buffer and how far it is filled: the device side has no heap, so no `Vec` grows here.
 #[derive(Drop)]
 pub struct Buffer<'a, T> {
     pub out: &'a mut [T],

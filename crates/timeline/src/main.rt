@@ -12,36 +12,33 @@ use std::alloc::{AllocError, Global};
 use std::env;
 use std::io::{Read, Write};
 
-// How many bytes the report of a page has: without a buffer, the answer is how long it has to be.
+// No call stands for an unset one, so `Entry` has no default.
+const UNSET: Entry = Entry {
+    processor: 0,
+    call: Call::Put,
+    from: 0,
+    mark: 0,
+    to: 0,
+    task: 0,
+    first: 0,
+    second: 0,
+};
+
+// How many bytes the report of a page has: without a buffer, the error says how many are needed.
 fn report_len(page: &[u8], list: &mut [Entry], width: usize) -> usize
     ensures { result ≡ min (length (report_text (length list.old) page.now width)) (2 ^ 64 - 1) }
 {
-    match report(page, list, width, &mut []) {
-        Ok(n) => n,
-        Err(n) => n,
-    }
+    report(page, list, width, &mut []).unwrap_or_else(|short| short.needed)
 }
 
 // The report of a page. The list has room for every page: a page has at most 32,768 bytes, and a line 48 at least.
 fn shown(heap: Global, page: &[u8], width: usize) -> Result<Vec<u8>, AllocError>
     ensures { IfOk result (λ v. v.items ≡ report_text 1024 page.now width) }
 {
-    let unset = Entry {
-        processor: 0,
-        call: Call::Put,
-        from: 0,
-        mark: 0,
-        to: 0,
-        task: 0,
-        first: 0,
-        second: 0,
-    };
-    let mut list = vec![in heap; unset; 1024]?;
+    let mut list = vec![in heap; UNSET; 1024]?;
     let n = report_len(page, &mut list, width);
     let mut out = vec![in heap; 0u8; n]?;
-    if report(page, &mut list, width, &mut out).is_err() {
-        return Err(AllocError);
-    }
+    report(page, &mut list, width, &mut out).unwrap();
     Ok(out)
 }
 
@@ -50,10 +47,10 @@ fn main(rt: HostRuntime) -> anyhow::Result<()> {
     let mut page = Vec::new(heap);
     // one byte more than a page may have is enough to refuse it
     rt.stdin().take(32769).read_to_end(&mut page)?;
-    let width = match env::args(&rt)?.nth(1) {
-        Some(word) => word.as_str().parse::<usize>().unwrap_or(80),
-        None => 80,
-    };
+    let width = env::args(&rt)?
+        .nth(1)
+        .and_then(|word| word.as_str().parse().ok())
+        .unwrap_or(80);
     let out = shown(heap, page.as_slice(), width)?;
     rt.stdout().write_all(out.as_slice())?;
     Ok(())

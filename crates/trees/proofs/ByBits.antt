@@ -1,14 +1,14 @@
 -- The walk of a write goes by the bits of its number.
-use Rattle.std.proofs.Common.{◌≡◌, ℕ, zero, suc, ◌+◌, ◌-◌, ◌*◌, ◌/◌, ◌%◌, ◌^◌, ◌<◌, ◌≤◌, Bool, true, false, cond, eqb, ltb, List, [], ◌∷◌, map, set, Some, None, Option, sym, refl, ap, ◌∙◌, ap₂, ⊎_elim, add-one, arith}
+use Rattle.std.proofs.Common.{◌≡◌, ℕ, zero, suc, ◌+◌, ◌-◌, ◌*◌, ◌/◌, ◌%◌, ◌^◌, ◌<◌, ◌≤◌, Bool, true, false, cond, eqb, List, [], ◌∷◌, map, set, Some, Option, sym, refl, ap, ◌∙◌, ap₂, ⊎_elim, add-one, arith}
 use Rattle.std.proofs.Math.Nat.{pow-succ'}
 use Rattle.std.proofs.lemmas.Nat.{shr-shr}
-use Rattle.std.proofs.lemmas.Bool.{cases_eq, cond-true, cond-false, eq-eqb, ne_eqb}
+use Rattle.std.proofs.lemmas.Bool.{cases_eq, eq-eqb, ne_eqb}
 use Rattle.trees.specs.declared.walk.Walk.{Walk}
 use Rattle.trees.specs.declared.walk.Walk.TheVariants.{Reading, Looking, Setting}
 use Rattle.trees.specs.Bits.{bits, by_bits, passed, ahead, IsWrite, WritesByBits}
 use Rattle.trees.specs.Fits.{Fit}
 use Rattle.trees.specs.Switches.{switch}
-use Rattle.trees.specs.Walks.{Access, looks, sets, next, switches_after, seen, goes_on, node, rise, fall, climb, descend}
+use Rattle.trees.specs.Walks.{Access, looks, sets, next, switches_after, seen, goes_on, node, fall, climb, descend}
 use Rattle.trees.specs.Way.{node_up, top_node, rise_even, rise_odd, rise_top, climb_sets, climb_ends, fall_end, descend_looks, descend_turns}
 
 halved : (m l : ℕ) → m / 2 ^ suc l ≡ m / 2 ^ l / 2
@@ -30,36 +30,36 @@ module _ (n : ℕ) where
 
   climb_even : (d l : ℕ) → l < 7 → node n l % 2 ≡ 0 → climb n l d ≡ climb n (suc l) d
   unfolding climb
-  climb_even d l h even = ap (λ r. cond (ltb r 7) (Some (Setting n r d)) None) (rise_even n l h even ∙ ap (λ k. rise n k (7 - k)) (add-one l))
+  climb_even d l h even = rw (rise_even n l h even, add-one)
 
   descend_odd : (d l : ℕ) → node n l % 2 ≡ 1 → descend n (suc l) d ≡ descend n l d
   unfolding descend fall
-  descend_odd d l odd = ap (λ r. cond (eqb r 0) (climb n 0 d) (Some (Looking n r d))) (cond-true (eqb (node n l % 2) 1) (fall n l) (suc l) (eq-eqb _ _ odd))
+  descend_odd d l odd = rw (eq-eqb (node n l % 2) 1 odd)
 
   fall_here : (l : ℕ) → node n l % 2 ≡ 0 → fall n (suc l) ≡ suc l
   unfolding fall
-  fall_here l even = cond-false (eqb (node n l % 2) 1) (fall n l) (suc l) (ne_eqb _ _ (omega arith))
+  fall_here l even = rw (ne_eqb (node n l % 2) 1 (omega arith))
 
   passed_odd : (l : ℕ) → l < 7 → node n l % 2 ≡ 1 → passed n l (7 - l) ≡ node n (suc l) ∷ passed n (suc l) (7 - suc l)
   unfolding passed
   passed_odd l h odd =
       let e : 7 - l ≡ suc (7 - suc l) = omega arith in
-      ap (passed n l) e ∙ cond-true (eqb (node n l % 2) 1) (node n (suc l) ∷ passed n (suc l) (7 - suc l)) (passed n (suc l) (7 - suc l)) (eq-eqb _ _ odd)
+      rw (e, eq-eqb (node n l % 2) 1 odd)
 
   passed_even : (l : ℕ) → l < 7 → node n l % 2 ≡ 0 → passed n l (7 - l) ≡ passed n (suc l) (7 - suc l)
   unfolding passed
   passed_even l h even =
       let e : 7 - l ≡ suc (7 - suc l) = omega arith in
-      ap (passed n l) e ∙ cond-false (eqb (node n l % 2) 1) (node n (suc l) ∷ passed n (suc l) (7 - suc l)) (passed n (suc l) (7 - suc l)) (ne_eqb _ _ (omega arith))
+      rw (e, ne_eqb (node n l % 2) 1 (omega arith))
 
   -- on its way up a write has the switches before it that it passed at a 1
   climb_ahead : (t : List Bool) (d up l : ℕ) → l + up ≡ 7 → ahead t (climb n l d) ≡ map sets (passed n l (7 - l))
   unfolding passed
   climb_ahead t d zero l e =
       let f : l ≡ 7 = omega arith in
-      ap (ahead t) (sym (climb_ends n l d 7 (rise_top n l f) (omega arith))) ∙ sym (ap (λ k. map sets (passed n k (7 - k))) f)
+      ap (ahead t) (climb_ends n l d 7 (rise_top n l f) (omega arith)) ∙ sym (ap (λ k. map sets (passed n k (7 - k))) f)
   climb_ahead t d (suc up) l e = ⊎_elim
-      (λ odd. ap (ahead t) (sym (climb_sets n l d l (rise_odd n l (omega arith) odd) (omega arith))))
+      (λ odd. ap (ahead t) (climb_sets n l d l (rise_odd n l (omega arith) odd) (omega arith)))
       (λ ne.
       let even : node n l % 2 ≡ 0 = omega arith in
       ap (ahead t) (climb_even d l (omega arith) even) ∙ climb_ahead t d up (suc l) (omega arith) ∙ sym (ap (map sets) (passed_even l (omega arith) even)))
@@ -68,7 +68,7 @@ module _ (n : ℕ) where
   -- on its way down it has those of the bits that are left
   descend_ahead : (t : List Bool) (d l : ℕ) → 1 ≤ n → l ≤ 7 → ahead t (descend n l d) ≡ by_bits t (bits l (n - 1)) (node n l) (passed n l (7 - l))
   unfolding bits
-  descend_ahead t d zero low h = ap (ahead t) (sym (descend_turns n 0 d (fall_end n 0 refl))) ∙ climb_ahead t d 7 0 (omega arith)
+  descend_ahead t d zero low h = ap (ahead t) (descend_turns n 0 d (fall_end n 0 refl)) ∙ climb_ahead t d 7 0 (omega arith)
   descend_ahead t d (suc l) low h = ⊎_elim
       (λ odd.
       let k = node n (suc l) in
@@ -78,7 +78,7 @@ module _ (n : ℕ) where
       let one : eqb ((n - 1) / 2 ^ l % 2) 1 ≡ true = eq-eqb _ _ (bit_of n l low (omega arith) ∙ odd) in
       ap (ahead t) (descend_odd d l odd) ∙ descend_ahead t d l low (omega arith) ∙ ap₂ (by_bits t (bits l (n - 1))) below (passed_odd l (omega arith) odd)
       ∙ sym (ap (λ b. by_bits t (b ∷ bits l (n - 1)) k ps) one))
-      (λ ne. ap (ahead t) (sym (descend_looks n (suc l) d (suc l) (fall_here l (omega arith)) (omega arith))))
+      (λ ne. ap (ahead t) (descend_looks n (suc l) d (suc l) (fall_here l (omega arith)) (omega arith)))
       (cases_eq (node n l % 2) 1)
 
   -- a look, at the level above m

@@ -1,19 +1,23 @@
 -- The ghost fields of a tree after a begin and after an access, and of a new tree.
-use Rattle.std.proofs.Common.{◌≡◌, ℕ, ◌^◌, ◌<◌, ◌≤◌, max, Bool, false, List, length, get_or, set, replicate, Some, None, Option, sym, refl, ◌∙◌, subst, mul-le-mul_left, arith, length-set}
+use Rattle.std.proofs.Common.{◌≡◌, ℕ, ◌^◌, ◌<◌, ◌≤◌, max, Bool, false, List, length, get_or, set, replicate, is_some, Some, None, Option, Result, ⊎_elim, sym, refl, ◌∙◌, subst, mul-le-mul_left, arith, length-set}
 use Rattle.std.proofs.lemmas.Nat.{pow_below}
 use Rattle.std.proofs.lemmas.Bool.{both_ways}
+use Rattle.registers.specs.declared.answers.Refusal.{Refusal}
+use Rattle.registers.specs.Accepted.{either_begins, idle_before}
 use Rattle.registers.specs.Meaning.{asked}
-use Rattle.registers.specs.Operations.{at, doing_of}
+use Rattle.registers.specs.Operations.{at, doing_of, Begins}
+use Rattle.registers.specs.Refusals.{refuse_read}
 use Rattle.registers.specs.Slots.{blank, every_set}
-use Rattle.registers.specs.Turns.{asks}
+use Rattle.registers.specs.Turns.{Becomes, asks}
 use Rattle.trees.specs.declared.walk.Walk.{Walk}
+use Rattle.trees.specs.declared.walk.Walk.TheVariants.{Reading}
 use Rattle.trees.specs.declared.tree_state.Tree.{Tree}
 use Rattle.trees.specs.Fits.{Capped, ceiling, Reader, Fit}
 use Rattle.trees.specs.Switches.{reach}
 use Rattle.trees.specs.Walks.{next, switches_after, seen, goes_on, walk_op}
-use Rattle.trees.specs.Moves.{fit_up}
+use Rattle.trees.specs.Moves.{fit_up, starts_read}
 use Rattle.trees.specs.Reach.{bounds, ◌⊑◌}
-use Rattle.trees.specs.Held.{fit_of, same_ceiling, stepped}
+use Rattle.trees.specs.Held.{same_ceiling, stepped}
 
 -- what a tree keeps, as its ghost fields have it
 abbrev pub Kept : List Bool → List (Option Walk) → Type 0
@@ -22,7 +26,7 @@ Kept t ops = record {
   wide : length t ≡ 128;
   bounded : ceiling t ops ≤ 128;
   capped : Capped t (ceiling t ops);
-  fit : (p : ℕ) → ∥ Fit t (at ops p) ∥₁;
+  fit : (p : ℕ) → Fit t (at ops p);
 }
 
 -- processor p of x is at o, and the switches are s
@@ -33,7 +37,7 @@ keeps x p s o top is small up wide caps fit = record {
   wide = wide ∙ x.wide;
   bounded = rw is small;
   capped = rw is caps;
-  fit = every_set None (λ q. ∥ Fit s q ∥₁) x.state.operations p o (λ k. ∣ fit_up x.state.on s up (at x.state.operations k) (fit_of x k) ∣₁) ∣ fit ∣₁;
+  fit = every_set None (Fit s) x.state.operations p o (λ k. fit_up x.state.on s up (at x.state.operations k) (x.fit k)) fit;
 }
 
 module _ (x : Tree) (p : ℕ) (h : p < 16) where
@@ -45,7 +49,10 @@ module _ (x : Tree) (p : ℕ) (h : p < 16) where
 
   -- a begin raises the ceiling to what is asked for
   pub begun_ceiling : (q : Option Walk) → at ops p ≡ None → ceiling t (set ops p q) ≡ max (ceiling t ops) (asked (doing_of walk_op q))
-  begun_ceiling q free = let m = rw free at (asks walk_op ops (set ops p q) p q x.sixteen h refl) in omega arith
+  begun_ceiling q free =
+      let turn : Becomes ops (set ops p q) p q = record { sixteen = x.sixteen; processor = h; changed = refl } in
+      let m = rw free at (asks walk_op turn) in
+      omega arith
 
   pub begin_keeps : (q : Option Walk) → at ops p ≡ None → asked (doing_of walk_op q) ≤ 128 → Fit t q → Kept t (set ops p q)
   begin_keeps q free small fit =
@@ -57,6 +64,16 @@ module _ (x : Tree) (p : ℕ) (h : p < 16) where
       let f = stepped x p h w is in
       keeps x p (switches_after (next w) t) (goes_on w (seen (next w) t)) (ceiling t ops) (same_ceiling x p h (Some w) _ _ is f) x.bounded f.up f.wide f.caps f.fit
 
+-- the begin of a read, accepted or refused
+pub read_keeps : (x : Tree) (p : ℕ) (r : Result (Unit {0}) Refusal) (ys : List (Option Walk)) → Begins (refuse_read p (is_some (at x.state.operations p))) p (Reading 1 7) x.state.operations r ys
+    → Kept x.state.on ys
+read_keeps x p r ys d = ⊎_elim
+    (λ same. rw same (record { sixteen = x.sixteen; wide = x.wide; bounded = x.bounded; capped = x.capped; fit = x.fit }))
+    (λ begun.
+    let (h, free) = idle_before p (at x.state.operations p) begun.0 in
+    rw begun.1 (begin_keeps x p h (Some (Reading 1 7)) free (omega arith) (starts_read x.state.on)))
+    (either_begins (refuse_read p (is_some (at x.state.operations p))) p (Reading 1 7) x.state.operations r ys d)
+
 -- a new tree
 pub new_keeps : Kept (replicate 128 false) (replicate 16 None)
 unfolding reach
@@ -65,7 +82,7 @@ new_keeps = record {
   wide = refl;
   bounded = omega arith;
   capped = λ l k o. absurd (both_ways (get_or (replicate 128 false) k false) (blank false 128 k) o.on);
-  fit = λ p. ∣ subst (Fit (replicate 128 false)) (sym (blank None 16 p)) tt ∣₁;
+  fit = λ p. subst (Fit (replicate 128 false)) (sym (blank None 16 p)) tt;
 }
 
 -- the switches that walks look at and set are there

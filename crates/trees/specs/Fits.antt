@@ -1,6 +1,8 @@
 -- What a tree of switches keeps: what its switches and the walks under way have to do with each other.
 use Rattle.std.specs.Prelude.{◌≡◌, ℕ, suc, ◌+◌, ◌-◌, ◌*◌, ◌%◌, ◌^◌, ◌<◌, ◌≤◌, max, Bool, true, List, Some, None, Option, count_ones}
-use Rattle.registers.specs.Operations.{most_asked}
+use Rattle.std.specs.Coded.{Unit-prop, le_prop}
+use Rattle.std.proofs.Math.Nat.{ℕ_set}
+use Rattle.registers.specs.Operations.{at, most_asked}
 use Rattle.trees.specs.declared.walk.Walk.{Walk}
 use Rattle.trees.specs.declared.walk.Walk.TheVariants.{Reading, Looking, Setting}
 use Rattle.trees.specs.Switches.{switch, reach, shown}
@@ -50,3 +52,13 @@ Fit t None = Unit {0}
 Fit t (Some (Reading k l)) = Reader t k l
 Fit t (Some (Looking n l d)) = Looker n l d
 Fit t (Some (Setting n l d)) = Setter t n l d
+
+-- each walk fits in one way
+pub fit_prop : (t : List Bool) (o : Option Walk) → IsProp (Fit t o)
+fit_prop t None = Unit-prop
+fit_prop t (Some (Reading k l)) = λ x y i. record { some = le_prop x.some y.some i; few = le_prop x.few y.few i; deep = le_prop x.deep y.deep i; reached = le_prop x.reached y.reached i }
+fit_prop t (Some (Looking n l d)) = λ x y i. record { low = le_prop x.low y.low i; high = le_prop x.high y.high i; some = le_prop x.some y.some i; few = le_prop x.few y.few i; left = ℕ_set _ _ x.left y.left i; spent = le_prop x.spent y.spent i }
+fit_prop t (Some (Setting n l d)) = λ x y i. record { low = le_prop x.low y.low i; high = le_prop x.high y.high i; few = le_prop x.few y.few i; right = ℕ_set _ _ x.right y.right i; holds = le_prop x.holds y.holds i; spent = le_prop x.spent y.spent i }
+
+pub fits_prop : (t : List Bool) (ops : List (Option Walk)) → IsProp ((p : ℕ) → Fit t (at ops p))
+fits_prop t ops = λ x y i p. fit_prop t (at ops p) (x p) (y p) i

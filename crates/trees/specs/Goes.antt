@@ -1,5 +1,5 @@
 -- How a write goes on after an access.
-use Rattle.std.proofs.Common.{◌≡◌, ℕ, zero, suc, ◌+◌, ◌-◌, ◌*◌, ◌%◌, ◌^◌, ◌<◌, ◌≤◌, Bool, true, eqb, ltb, List, Some, None, Option, sym, refl, ap, ◌∙◌, subst, add-one, arith}
+use Rattle.std.proofs.Common.{◌≡◌, ℕ, zero, suc, ◌+◌, ◌-◌, ◌*◌, ◌%◌, ◌^◌, ◌<◌, ◌≤◌, Bool, true, eqb, ltb, List, Some, None, Option, sym, refl, ap, ◌∙◌, add-one, arith}
 use Rattle.std.specs.Int.Count.{ones, ones_step}
 use Rattle.std.proofs.lemmas.Bool.{cond_both, eqb-true, eqb-false, ltb-true, ltb-false}
 use Rattle.trees.specs.declared.walk.Walk.{Walk}
@@ -111,5 +111,5 @@ bottom n (suc l) = cond_both (eqb (node n (suc l) % 2) 1) (fall n (suc l)) (suc 
 pub descend_busy : (n l d : ℕ) → Busy (descend n (suc l) d)
 unfolding descend
 descend_busy n l d = cond_both (eqb (fall n (suc l)) 0) (climb n 0 d) (Some (Looking n (fall n (suc l)) d)) Busy
-    (λ e. subst Busy (climb_sets n 0 d 0 (rise_odd n 0 (omega arith) (bottom n l (eqb-true _ _ e))) (omega arith)) tt)
+    (λ e. rw (climb_sets n 0 d 0 (rise_odd n 0 (omega arith) (bottom n l (eqb-true _ _ e))) (omega arith)) tt)
     (λ _. tt)

@@ -1,25 +1,21 @@
 -- What the ghost fields of a tree give of its walks, and what an access leaves of its ceiling.
 use Rattle.std.proofs.Common.{◌≡◌, ℕ, suc, ◌+◌, ◌*◌, ◌^◌, ◌<◌, ◌≤◌, Bool, false, List, set, replicate, Some, None, Option, refl, subst, arith}
-use Rattle.std.proofs.Math.Logic.{∥∥₁_elim}
 use Rattle.registers.specs.Meaning.{asked}
 use Rattle.registers.specs.Operations.{at, doing_of}
 use Rattle.registers.specs.Slots.{most_at, most_there}
-use Rattle.registers.specs.Turns.{asks, asked_at}
+use Rattle.registers.specs.Turns.{Becomes, asks, asked_at}
 use Rattle.trees.specs.declared.walk.Walk.{Walk}
 use Rattle.trees.specs.declared.tree_state.Tree.{Tree}
 use Rattle.trees.specs.Fits.{ceiling, Looker, Setter, Fit}
 use Rattle.trees.specs.Switches.{reach, shown}
 use Rattle.trees.specs.Walks.{next, switches_after, seen, goes_on, walk_op}
 use Rattle.trees.specs.Goes.{spent_up}
-use Rattle.trees.specs.Moves.{After, fit_prop, after}
+use Rattle.trees.specs.Moves.{After, after}
 use Rattle.trees.specs.Reach.{bounds, rises, capped}
 use Rattle.trees.specs.Way.{ones_node}
 
-pub fit_of : (x : Tree) (p : ℕ) → Fit x.state.on (at x.state.operations p)
-fit_of x p = ∥∥₁_elim (x.fit p) (fit_prop x.state.on (at x.state.operations p)) (λ f. f)
-
 pub fit_at : (x : Tree) (p : ℕ) (o : Option Walk) → at x.state.operations p ≡ o → Fit x.state.on o
-fit_at x p o is = subst (Fit x.state.on) is (fit_of x p)
+fit_at x p o is = subst (Fit x.state.on) is (x.fit p)
 
 pub one_shown : (t : List Bool) → (128 ≤ reach 7 t 1) × (reach 7 t 1 < 256)
 one_shown t = let h = bounds 7 t 1 in omega arith
@@ -37,7 +33,8 @@ module _ (x : Tree) (p : ℕ) (h : p < 16) where
       let u = rises t s f.up 7 1 in
       let g = x.bounded in
       let e = f.ends in
-      let m = rw is at (asks walk_op ops (set ops p q) p q x.sixteen h refl) in
+      let turn : Becomes ops (set ops p q) p q = record { sixteen = x.sixteen; processor = h; changed = refl } in
+      let m = rw is at (asks walk_op turn) in
       let r = most_there (λ o. asked (doing_of walk_op o)) ops p q (omega (arith, x.sixteen)) in
       let a = rw is at (most_at None (λ o. asked (doing_of walk_op o)) refl ops p) in
       let w = one_shown t in

@@ -1,8 +1,5 @@
 -- One access of a walk, or a begin: nothing that the tree keeps is lost.
 use Rattle.std.proofs.Common.{◌≡◌, ℕ, zero, suc, ◌+◌, ◌-◌, ◌*◌, ◌%◌, ◌^◌, ◌<◌, ◌≤◌, Bool, true, false, ltb, ◌⊎◌, List, [], ◌∷◌, length, set, Some, None, Option, sym, refl, ap, ◌∙◌, subst, inl, inr, ⊎_elim, mul-le-mul_left, add-one, arith, length-set, get_or-set_other, get_or-set_same, pow_mono}
-use mathlib.Core.HLevel.{Unit-prop}
-use Rattle.std.proofs.Math.Nat.{ℕ_set}
-use Rattle.std.proofs.Math.Bridge.{le_prop}
 use Rattle.std.specs.Int.Count.{ones, ones-ones}
 use Rattle.std.proofs.lemmas.Bool.{cond_both, cases_eq, cases_order, ltb-true}
 use Rattle.registers.specs.Meaning.{asked, busy, writing}
@@ -16,12 +13,6 @@ use Rattle.trees.specs.Walks.{node, climb, descend, next, switches_after, seen, 
 use Rattle.trees.specs.Reach.{levels, bounds, rises, below, ◌⊑◌}
 use Rattle.trees.specs.Way.{node_up, node_over, node_deep, node_index, top_node}
 use Rattle.trees.specs.Goes.{Goes, Busy, stops, up_odd, spent_up, climbs, descends}
-
-pub fit_prop : (t : List Bool) (o : Option Walk) → IsProp (Fit t o)
-fit_prop t None = Unit-prop
-fit_prop t (Some (Reading k l)) = λ x y i. record { some = le_prop x.some y.some i; few = le_prop x.few y.few i; deep = le_prop x.deep y.deep i; reached = le_prop x.reached y.reached i }
-fit_prop t (Some (Looking n l d)) = λ x y i. record { low = le_prop x.low y.low i; high = le_prop x.high y.high i; some = le_prop x.some y.some i; few = le_prop x.few y.few i; left = ℕ_set _ _ x.left y.left i; spent = le_prop x.spent y.spent i }
-fit_prop t (Some (Setting n l d)) = λ x y i. record { low = le_prop x.low y.low i; high = le_prop x.high y.high i; few = le_prop x.few y.few i; right = ℕ_set _ _ x.right y.right i; holds = le_prop x.holds y.holds i; spent = le_prop x.spent y.spent i }
 
 -- a switch that is set leaves the others as they were
 pub set_on : (t : List Bool) (k : ℕ) → t ⊑ set t k true

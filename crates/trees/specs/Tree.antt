@@ -1,9 +1,8 @@
 -- The tree of switches as a head register.
 use Rattle.std.specs.Prelude.{◌≡◌, ℕ, ◌-◌, Bool, false, List, replicate, Some, None, Option, slice_set}
-use Rattle.registers.specs.declared.answers.Became.{Became}
 use Rattle.registers.specs.Meaning.{Meaning}
 use Rattle.registers.specs.Model.{Model, over}
-use Rattle.registers.specs.Operations.{at, meaning_of}
+use Rattle.registers.specs.Operations.{at, meaning_of, StepsBy}
 use Rattle.trees.specs.declared.walk.Walk.{Walk}
 use Rattle.trees.specs.declared.walk.Walk.TheVariants.{Reading, Looking, Setting}
 use Rattle.trees.specs.declared.tree_state.Tree as tree
@@ -21,10 +20,6 @@ tree_at s p o = record { on = s.on; operations = slice_set s.operations p o }
 -- one access of a walk of processor p
 abbrev pub tree_stepped : state.TreeState → ℕ → Walk → state.TreeState
 tree_stepped s p w = record { on = switches_after (next w) s.on; operations = slice_set s.operations p (goes_on w (seen (next w) s.on)) }
-
-abbrev pub TreeSteps : state.TreeState → ℕ → Option Walk → Became → state.TreeState → Type 0
-TreeSteps s p None b v = ⊥
-TreeSteps s p (Some w) b v = (b ≡ walk_answer w (seen (next w) s.on)) × (v ≡ tree_stepped s p w)
 
 -- a processor's floor is what the switches show; while it reads, what its read would answer if it ran on alone
 abbrev pub tree_floor : List Bool → Option Walk → ℕ
@@ -45,7 +40,7 @@ tree_on_state = record {
   starts = λ s. s ≡ tree_new;
   reads = λ s p v. v ≡ tree_at s p (Some (Reading 1 7));
   writes = λ s p n v. v ≡ tree_at s p (descend n 7 0);
-  steps = λ s p b v. TreeSteps s p (at s.operations p) b v;
+  steps = λ s p b v. StepsBy (λ w. walk_answer w (seen (next w) s.on)) (tree_stepped s p) (at s.operations p) b v;
 }
 
 abbrev pub tree_model : Model tree.Tree

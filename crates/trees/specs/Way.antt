@@ -1,9 +1,8 @@
 -- The nodes on the way to the leaf of a number.
-use Rattle.std.proofs.Common.{◌≡◌, ℕ, zero, suc, ◌+◌, ◌-◌, ◌*◌, ◌/◌, ◌%◌, ◌^◌, ◌<◌, ◌≤◌, cond, eqb, ltb, Some, None, sym, ap, ◌∙◌, mul-le-mul_right, add-one, arith}
-use Rattle.std.specs.Int.Bits.{bit_and}
+use Rattle.std.proofs.Common.{◌≡◌, ℕ, zero, suc, ◌+◌, ◌-◌, ◌*◌, ◌/◌, ◌%◌, ◌^◌, ◌<◌, ◌≤◌, eqb, Some, None, sym, ap, ◌∙◌, mul-le-mul_right, add-one, arith}
 use Rattle.std.proofs.lemmas.Bool.{cond-true, cond-false, eq-eqb, ne_eqb, lt-ltb, le-ltb}
 use Rattle.std.specs.Int.Count.{ones, ones_step, ones-ones}
-use Rattle.std.proofs.lemmas.Nat.{pow_pos, pow_below, and_mask, shr-shr, shr_split, mod_below, div_below}
+use Rattle.std.proofs.lemmas.Nat.{pow_pos, pow_below, shr-shr, shr_split, mod_below, div_below}
 use Rattle.trees.specs.Walks.{node, rise, fall, climb, descend}
 use Rattle.trees.specs.declared.walk.Walk.TheVariants.{Setting, Looking}
 use Rattle.trees.specs.Reach.{levels}
@@ -45,23 +44,23 @@ module _ (n l : ℕ) (h : l < 7) where
 
   pub rise_even : node n l % 2 ≡ 0 → rise n l (7 - l) ≡ rise n (l + 1) (7 - (l + 1))
   unfolding rise
-  rise_even e = ap (rise n l) more_up ∙ cond-false (eqb (node n l % 2) 1) l (rise n (l + 1) (7 - (l + 1))) (ne_eqb _ _ (omega arith))
+  rise_even e = rw (more_up, ne_eqb (node n l % 2) 1 (omega arith))
 
   pub rise_odd : node n l % 2 ≡ 1 → rise n l (7 - l) ≡ l
   unfolding rise
-  rise_odd e = ap (rise n l) more_up ∙ cond-true (eqb (node n l % 2) 1) l (rise n (l + 1) (7 - (l + 1))) (eq-eqb _ _ e)
+  rise_odd e = rw (more_up, eq-eqb (node n l % 2) 1 e)
 
 pub rise_top : (n l : ℕ) → l ≡ 7 → rise n l (7 - l) ≡ 7
 unfolding rise
 rise_top n l e = rw e
 
-pub climb_sets : (n from d l : ℕ) → rise n from (7 - from) ≡ l → l < 7 → Some (Setting n l d) ≡ climb n from d
+pub climb_sets : (n from d l : ℕ) → rise n from (7 - from) ≡ l → l < 7 → climb n from d ≡ Some (Setting n l d)
 unfolding climb
-climb_sets n from d l e h = sym (ap (λ r. cond (ltb r 7) (Some (Setting n r d)) None) e ∙ cond-true (ltb l 7) (Some (Setting n l d)) None (lt-ltb l 7 h))
+climb_sets n from d l e h = rw (e, lt-ltb l 7 h)
 
-pub climb_ends : (n from d l : ℕ) → rise n from (7 - from) ≡ l → 7 ≤ l → None ≡ climb n from d
+pub climb_ends : (n from d l : ℕ) → rise n from (7 - from) ≡ l → 7 ≤ l → climb n from d ≡ None
 unfolding climb
-climb_ends n from d l e h = sym (ap (λ r. cond (ltb r 7) (Some (Setting n r d)) None) e ∙ cond-false (ltb l 7) (Some (Setting n l d)) None (le-ltb l 7 h))
+climb_ends n from d l e h = rw (e, le-ltb l 7 h)
 
 -- the level that a write comes to on its way down
 module _ (n l : ℕ) (h : 1 ≤ l) where
@@ -80,14 +79,10 @@ pub fall_end : (n l : ℕ) → l ≡ 0 → fall n l ≡ 0
 unfolding fall
 fall_end n l e = rw e
 
-pub descend_looks : (n from d l : ℕ) → fall n from ≡ l → 1 ≤ l → Some (Looking n l d) ≡ descend n from d
+pub descend_looks : (n from d l : ℕ) → fall n from ≡ l → 1 ≤ l → descend n from d ≡ Some (Looking n l d)
 unfolding descend
-descend_looks n from d l e h = sym (ap (λ r. cond (eqb r 0) (climb n 0 d) (Some (Looking n r d))) e ∙ cond-false (eqb l 0) (climb n 0 d) (Some (Looking n l d)) (ne_eqb l 0 (omega arith)))
+descend_looks n from d l e h = rw (e, ne_eqb l 0 (omega arith))
 
-pub descend_turns : (n from d : ℕ) → fall n from ≡ 0 → climb n 0 d ≡ descend n from d
+pub descend_turns : (n from d : ℕ) → fall n from ≡ 0 → descend n from d ≡ climb n 0 d
 unfolding descend
-descend_turns n from d e = sym (ap (λ r. cond (eqb r 0) (climb n 0 d) (Some (Looking n r d))) e)
-
--- the lowest bit
-pub lowest : (k : ℕ) → bit_and k 1 ≡ k % 2
-lowest k = and_mask k 1
+descend_turns n from d e = rw e

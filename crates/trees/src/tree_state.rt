@@ -1,6 +1,6 @@
 ghost use Rattle.std.specs.Prelude.{◌≡◌, ℕ, ◌≤◌, length};
 ghost use Rattle.registers.specs.Operations.{at};
-ghost use Rattle.trees.specs.Fits.{Capped, ceiling, Fit};
+ghost use Rattle.trees.specs.Fits.{Capped, ceiling, Fit, fits_prop};
 
 use crate::walk::Walk;
 
@@ -20,5 +20,5 @@ pub struct Tree {
     ghost wide: { length state.on ≡ 128 },
     ghost bounded: { ceiling state.on state.operations ≤ 128 },
     ghost capped: { Capped state.on (ceiling state.on state.operations) },
-    ghost fit: { ((p : ℕ) → ∥ Fit state.on (at state.operations p) ∥₁) },
+    ghost fit: { (p : ℕ) → Fit state.on (at state.operations p) } by { fits_prop state.on state.operations },
 }

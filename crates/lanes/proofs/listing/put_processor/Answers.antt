@@ -5,4 +5,5 @@ pub returns : goal.returns
 unfolding processor_text
 returns g c =
     let join = g.S.Sink.laws.join in
-    join _ _ _ _ _ c.put_bytes.ensures (join _ _ _ _ _ c.put_number.ensures (join _ _ _ _ _ c.put.ensures c.put_operations.ensures))
+    let operations = join _ _ _ _ _ c.put.ensures c.put_operations.ensures in
+    search join

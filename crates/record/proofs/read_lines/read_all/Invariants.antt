@@ -6,13 +6,10 @@ use Rattle.record.proofs.ReadLines.{with_all}
 use Rattle.record.proofs.read_lines.read_all.Given as goal
 
 -- the entries so far were taken, and the others are still to come
-abbrev pub invariant-loop-left : goal.invariant-loop-left
-invariant-loop-left g l =
+abbrev pub invariant-loop-n : goal.invariant-loop-n
+invariant-loop-n g l =
     (l.n ≤ l.room)
     × ((front : List Entry)
     × (length front ≡ l.n)
     × (g.S.Sink.took l.initial.s front l.s)
     × (read_entries (kind g.J.Job.names g.J.Job.made) l.h l.room 0 l.initial.r.rest.now ≡ with_all front (read_entries (kind g.J.Job.names g.J.Job.made) l.h (l.room - l.n) l.n l.r.rest.now)))
-
-abbrev pub decreases-loop-left : goal.decreases-loop-left
-decreases-loop-left g l = l.room - l.n

@@ -13,5 +13,5 @@ invariant_of-self c =
     let n = c.args.n in
     let (h, free, low, high) = allowed_write 128 p n (at x.state.operations p) c.in_ok-check_write.ensures in
     let g = starts_write x.state.on n low high in
-    subst (λ o. Kept x.state.on (set x.state.operations p o)) (sym c.descend-first.ensures)
+    subst (λ o. Kept x.state.on (set x.state.operations p o)) (sym c.descend.ensures)
     (begin_keeps x p h (descend n 7 0) free (omega (arith, goes_asked x.state.on n 0 (descend n 7 0) g)) (goes_fit x.state.on n 0 (descend n 7 0) g))
