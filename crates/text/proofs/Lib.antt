@@ -1,3 +1,4 @@
+pub mod Decimals
 pub mod Answered
 pub mod Numbers
 pub mod Words

@@ -1,5 +1,5 @@
 -- Counting line and byte goes by newlines, and by the bytes of the unfinished line.
-use Rattle.std.proofs.Common.{◌≡◌, ℕ, ◌+◌, ◌<◌, ◌≤◌, true, false, cond, not, eqb, List, [], ◌∷◌, ◌++◌, length, reverse, ◌⊎◌, sym, refl, ap, ◌∙◌, inl, inr, ⊎_elim, arith, length-append}
+use Rattle.std.proofs.Common.{◌≡◌, ℕ, suc, ◌+◌, ◌-◌, ◌<◌, ◌≤◌, true, false, cond, not, eqb, List, [], ◌∷◌, ◌++◌, length, take, reverse, ◌⊎◌, sym, refl, ap, ◌∙◌, inl, inr, ⊎_elim, arith, length-append}
 use Rattle.std.proofs.lemmas.Bool.{cases_Bool, cond_both, eqb-true, eqb-false}
 use Rattle.std.proofs.lemmas.List.{reverse-append, length-reverse}
 use Rattle.std.proofs.lemmas.List.Folds.{position_or_len_push}
@@ -69,6 +69,37 @@ located s =
     let b : unfinished s + 1 ≡ (after_bytes 1 1 s).1 =
     ⊎_elim (λ t. let same = eqb-true _ _ t in omega (arith, k.1 same)) (λ f. let other = eqb-false _ _ f in omega (arith, k.2 (omega arith))) (cases_Bool (eqb (unfinished s) (length s))) in
     λ i. (l i, b i)
+
+-- a text that is one unfinished line has no newline,
+newlines_none : (s : List ℕ) → unfinished s ≡ length s → newlines s ≡ 0
+newlines_none [] e = refl
+newlines_none (c ∷ cs) e =
+    let within = unfinished_within cs in
+    elim (eqb c 10) as (λ b. newlines (c ∷ cs) ≡ cond b 1 0 + newlines cs → unfinished (c ∷ cs) ≡ cond (eqb (unfinished cs) (length cs)) (length cs + cond b 0 1) (unfinished cs) → newlines (c ∷ cs) ≡ 0) [
+      | true ↦ λ n v. ⊎_elim (λ p. absurd (omega arith)) (λ p. absurd (omega arith)) (split (unfinished cs) (length cs) (length cs + 0) _ within v)
+      | false ↦ λ n v. ⊎_elim (λ p. omega (arith, newlines_none cs p.0)) (λ p. absurd (omega arith)) (split (unfinished cs) (length cs) (length cs + 1) _ within v)
+    ] (newlines_cons c cs) (unfinished_cons c cs)
+
+-- so that all newlines stand before the unfinished line
+pub newlines_before : (s : List ℕ) → newlines (take (length s - unfinished s) s) ≡ newlines s
+newlines_before [] = refl
+newlines_before (c ∷ cs) =
+    let u = unfinished cs in
+    let l = length cs in
+    let within = unfinished_within cs in
+    let more = newlines_cons c cs in
+    ⊎_elim
+    (λ p.
+    let none = newlines_none cs p.0 in
+    elim (eqb c 10) as (λ b. unfinished (c ∷ cs) ≡ l + cond b 0 1 → newlines (c ∷ take 0 cs) ≡ cond b 1 0 + newlines (take 0 cs) → newlines (c ∷ cs) ≡ cond b 1 0 + newlines cs
+    → newlines (take (length (c ∷ cs) - unfinished (c ∷ cs)) (c ∷ cs)) ≡ newlines (c ∷ cs)) [
+      | true ↦ λ v f n. let k : length (c ∷ cs) - unfinished (c ∷ cs) ≡ 1 = omega arith in ap (λ j. newlines (take j (c ∷ cs))) k ∙ f ∙ omega arith
+      | false ↦ λ v f n. let k : length (c ∷ cs) - unfinished (c ∷ cs) ≡ 0 = omega arith in ap (λ j. newlines (take j (c ∷ cs))) k ∙ omega arith
+    ] p.1 (newlines_cons c (take 0 cs)) more)
+    (λ p.
+    let k : length (c ∷ cs) - unfinished (c ∷ cs) ≡ suc (l - u) = omega arith in
+    ap (λ j. newlines (take j (c ∷ cs))) k ∙ newlines_cons c (take (l - u) cs) ∙ ap (λ m. cond (eqb c 10) 1 0 + m) (newlines_before cs) ∙ sym more)
+    (split u l (l + cond (eqb c 10) 0 1) _ within (unfinished_cons c cs))
 
 -- without a newline all bytes are of one unfinished line,
 unfinished_all : (s : List ℕ) → newlines s ≡ 0 → unfinished s ≡ length s

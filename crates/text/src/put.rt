@@ -1,9 +1,8 @@
 // Bytes, numbers and pairs, put into a sink.
 ghost use Rattle.std.specs.Prelude.{◌≡◌, decimal};
-ghost use Rattle.text.specs.Written.{word_pair, number_pair};
+ghost use Rattle.text.specs.Written.{two_figures, word_pair, number_pair};
 
 use crate::sink::Sink;
-use itoa::Buffer;
 
 pub fn put_bytes<S: Sink<u8>>(s: &mut S, bs: &[u8])
     ensures { S.Sink.took s.old bs.now s.new }
@@ -13,11 +12,26 @@ pub fn put_bytes<S: Sink<u8>>(s: &mut S, bs: &[u8])
     }
 }
 
+// The last two figures of a number that has two or more.
+fn put_two_figures<S: Sink<u8>>(s: &mut S, n: usize)
+    ensures { S.Sink.took s.old (two_figures n) s.new }
+{
+    s.put(b'0' + (n / 10 % 10) as u8);
+    s.put(b'0' + (n % 10) as u8);
+}
+
+// Its figures are written here and by no crate, so that what a page says of numbers rests on the standard library alone.
 pub fn put_number<S: Sink<u8>>(s: &mut S, n: usize)
     ensures { S.Sink.took s.old (decimal n) s.new }
 {
-    let mut figures = Buffer::new();
-    put_bytes(s, figures.format(n).as_bytes());
+    match n {
+        0..=9 => s.put(b'0' + n as u8),
+        10..=99 => put_two_figures(s, n),
+        _ => {
+            put_number(s, n / 100);
+            put_two_figures(s, n);
+        }
+    }
 }
 
 pub fn put_word<S: Sink<u8>>(s: &mut S, key: &[u8], word: &[u8], end: u8)
@@ -29,10 +43,12 @@ pub fn put_word<S: Sink<u8>>(s: &mut S, key: &[u8], word: &[u8], end: u8)
     s.put(end);
 }
 
-#[tactic(auto, unfolding(crate::specs::Written::number_pair, crate::specs::Written::word_pair))]
+// Like `put_word`, but for the value: a number's figures are put one by one and stand in no slice that would be a word.
 pub fn put_pair<S: Sink<u8>>(s: &mut S, key: &[u8], n: usize, end: u8)
     ensures { S.Sink.took s.old (number_pair key.now n end) s.new }
 {
-    let mut word = Buffer::new();
-    put_word(s, key, word.format(n).as_bytes(), end);
+    put_bytes(s, key);
+    s.put(b'=');
+    put_number(s, n);
+    s.put(end);
 }

@@ -32,6 +32,13 @@ pub trait Listed: Copy + 'static {
     fn word(&self) -> &'static [u8]
         ensures { result.now ≡ text self.now };
 
+    // The value that has this word, if one has.
+    fn value_of(word: &[u8]) -> Option<Self>
+        ensures { result ≡ spelled values text word.now }
+    {
+        Self::all().iter().copied().find(|x| word == x.word())
+    }
+
     ghost laws: { Words values text };
 }
 
@@ -43,7 +50,7 @@ impl<W: Listed> Spelled for W {
     ghost laws = { spells W.laws };
 
     fn from_word(word: &[u8]) -> Option<W> {
-        W::all().iter().copied().find(|x| word == x.word())
+        W::value_of(word)
     }
 
     fn to_word(&self) -> &'static [u8] {

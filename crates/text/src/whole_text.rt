@@ -71,7 +71,10 @@ fn count_unfinished(bytes: &[u8]) -> usize
 fn locate(front: &[u8]) -> (usize, usize)
     ensures { result ≡ after_bytes 1 1 front.now }
 {
-    (count_newlines(front) + 1, count_unfinished(front) + 1)
+    // each byte is looked at once: all newlines stand before the unfinished line
+    let unfinished = count_unfinished(front);
+    let lines = &front[..front.len() - unfinished];
+    (count_newlines(lines) + 1, unfinished + 1)
 }
 
 // The fault with its line and byte.
