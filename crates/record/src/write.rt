@@ -34,6 +34,10 @@ fn write_jobs<J: Job + Drop>(page: &Page<'_>, out: &mut [u8]) -> Result<usize, W
     if !all_have_jobs::<J>(page.entries) {
         return Err(WriteRefusal::JobRefused);
     }
+    // no line is empty, so the page is too long, which need not be counted
+    if page.entries.len() > 32768 {
+        return Err(WriteRefusal::PageTooLong);
+    }
     let mut count = Counter { n: 0 };
     put_page::<Counter, J>(&mut count, page);
     let n = count.n;
