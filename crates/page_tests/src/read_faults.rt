@@ -18,7 +18,7 @@ fn whole_text(rt: HostRuntime) -> Result<(), Fail> {
             refused(20, 1, 1),
         ),
     ] {
-        assert_eq!(rt; outcome(&rt, text), want);
+        assert_eq!(rt; outcome(text), want);
     }
     for (text, want) in [
         (b"x".as_slice(), refused(21, 2, 2)),
@@ -68,7 +68,7 @@ fn header_keys(rt: HostRuntime) {
             refused(24, 1, 46),
         ),
     ] {
-        assert_eq!(rt; outcome(&rt, text), want);
+        assert_eq!(rt; outcome(text), want);
     }
 }
 
@@ -141,7 +141,7 @@ fn header_values(rt: HostRuntime) {
             refused(23, 1, 22),
         ),
     ] {
-        assert_eq!(rt; outcome(&rt, text), want);
+        assert_eq!(rt; outcome(text), want);
     }
 }
 
@@ -387,11 +387,11 @@ fn full_list(rt: HostRuntime) {
         b"register=word places=4 processors=2 job=check\nop=1 proc=0 call=take from=0 mark=0 to=0 task=0\nop=2 proc=1 call=steal from=0 mark=0 to=0 task=0\n";
     let job_refused =
         b"register=word places=4 processors=2 job=check\nop=1 proc=0 call=take from=0 mark=0 to=0 task=0\nop=2 proc=0 call=put from=0 mark=0 to=0 task=0 line=0 limit=0\n";
-    assert_eq!(rt; outcome_in(&rt, none, 0), Ok(0));
-    assert_eq!(rt; outcome_in(&rt, two, 0), refused(27, 2, 1));
-    assert_eq!(rt; outcome_in(&rt, two, 1), refused(27, 3, 1));
-    assert_eq!(rt; outcome_in(&rt, two, 2), Ok(2));
-    assert_eq!(rt; outcome_in(&rt, job_refused, 0), refused(27, 2, 1));
-    assert_eq!(rt; outcome_in(&rt, job_refused, 1), refused(25, 3, 53));
-    assert_eq!(rt; outcome_in(&rt, job_refused, 2), refused(25, 3, 53));
+    assert_eq!(rt; outcome_in(none, 0), Ok(0));
+    assert_eq!(rt; outcome_in(two, 0), refused(27, 2, 1));
+    assert_eq!(rt; outcome_in(two, 1), refused(27, 3, 1));
+    assert_eq!(rt; outcome_in(two, 2), Ok(2));
+    assert_eq!(rt; outcome_in(job_refused, 0), refused(27, 2, 1));
+    assert_eq!(rt; outcome_in(job_refused, 1), refused(25, 3, 53));
+    assert_eq!(rt; outcome_in(job_refused, 2), refused(25, 3, 53));
 }
